@@ -1,0 +1,2 @@
+// The rules that the analyser keeps, as definitions in specs/; and the limits that they name.
+pub fn nothing() {}
