@@ -9,7 +9,7 @@ use Rattle.paper.specs.Sets.{members}
 use Rattle.paper.specs.Diagrams.{Diagram, leaf, node}
 use Rattle.paper.specs.Cuts.{setsOf}
 use Rattle.algebra.specs.Operations.{joinD, eventD, nodeCount}
-use Rattle.algebra.specs.Families.{withoutD, cutsD}
+use Rattle.algebra.specs.Families.{mkZ, withoutD, cutsD}
 
 -- the root's diagram, by its steps: figure 2
 root : Diagram
@@ -42,3 +42,10 @@ kept = refl
 cuts : cutsD root ≡ node 0 (eventD 1) (eventD 2)
 unfolding root ℕ-discrete
 cuts = refl
+
+-- document 002, 4.3: in a family a node with failed branch 0 is dropped, and one with equal branches stays
+dropped : mkZ 1 (leaf false) (eventD 2) ≡ eventD 2
+dropped = refl
+
+equal-branches-stay : mkZ 0 (leaf true) (leaf true) ≡ node 0 (leaf true) (leaf true)
+equal-branches-stay = refl
