@@ -1,4 +1,5 @@
--- The laws on tables: flags, the check, what numbers denote.
+-- The laws on tables: flags, the check, what numbers denote, lent tables, tables without equal nodes.
 pub mod Flags
 pub mod Check
 pub mod Den
+pub mod Lent
