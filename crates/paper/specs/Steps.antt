@@ -4,7 +4,8 @@
 use mathlib.Core.Bool.{Bool, true, false, cond, not, Bool·beq}
 use mathlib.Core.List.{List, [], _∷_, _++_, map}
 use Prim.Native.Nat.{ℕ, zero, suc}
-use lib.ListN.{getD}
+use lib.Dec.{leb}
+use lib.ListN.{length, getD}
 use Rattle.paper.specs.Functions.{Fun}
 use Rattle.paper.specs.Trees.{Input, event, gate, Gate, andG, orG, leastG, eventF, constF}
 
@@ -32,13 +33,15 @@ module _ {X : Type 0} (ev : ℕ → X) (ct : Bool → X) (jn : Bool → X → X 
   abbrev pub least : ℕ → List X → X
   least zero xs = ct true
   least (suc k) [] = ct false
-  least (suc k) (x ∷ xs) = jn true (jn false x (least k xs)) (least (suc k) xs)
+  least (suc k) (x ∷ xs) = cond (leb (suc k) (length (x ∷ xs))) (jn true (jn false x (least k xs)) (least (suc k) xs)) (ct false)
 
   -- every pair that the rule reaches, and each conjunction in it
   abbrev pub leastSteps : ℕ → List X → List X
   leastSteps zero xs = ct true ∷ []
   leastSteps (suc k) [] = ct false ∷ []
-  leastSteps (suc k) (x ∷ xs) = least (suc k) (x ∷ xs) ∷ (jn false x (least k xs) ∷ (leastSteps k xs ++ leastSteps (suc k) xs))
+  leastSteps (suc k) (x ∷ xs) = cond (leb (suc k) (length (x ∷ xs)))
+      (least (suc k) (x ∷ xs) ∷ (jn false x (least k xs) ∷ (leastSteps k xs ++ leastSteps (suc k) xs)))
+      (ct false ∷ [])
 
   -- gs are the values of the gates before
   abbrev pub input : List X → Input → X
