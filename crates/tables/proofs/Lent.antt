@@ -32,7 +32,8 @@ module _ {cut : Bool} {n : ℕ} {T : List ℕ} {c root : ℕ} (lent : Lent cut n
   ordered =
       den-ind lent-lower (λ i. (m : ℕ) → (2 ≤ i → m ≤ eventOf T i) → Ordered m n (den T i)) (λ m a. rw (den-0 T) tt) (λ m a. rw (den-1 T) tt)
       (λ i h l f s m a. rw (den-node lent-lower i h l) (
-        a h, lent-node h l .event,
+        a h,
+        lent-node h l .event,
         f (suc (eventOf T i)) (lent-node h l .failed-above),
         s (suc (eventOf T i)) (lent-node h l .sound-above),
       ))
@@ -58,7 +59,7 @@ module _ {n : ℕ} {T : List ℕ} {c root : ℕ} (lent : Lent true n T c root) w
   lent-suppressed {i} h =
       den-ind low (λ i. Suppressed (den T i)) (rw (den-0 T) tt) (rw (den-1 T) tt)
       (λ i h l f s. let below = lent-node lent h l .failed in
-        rw (den-node low i h l) ((λ z. lent .nodes i h l .1 (den-false low (failedOf T i) (omega arith) z)), f, s))
+      rw (den-node low i h l) ((λ z. lent .nodes i h l .1 (den-false low (failedOf T i) (omega arith) z)), f, s))
       i h
 
   -- THE ROOT of a cut diagram denotes a family
