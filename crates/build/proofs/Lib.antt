@@ -1,0 +1,2 @@
+-- The laws of building: the at-least rule.
+pub mod AtLeast

@@ -1,0 +1,2 @@
+-- A tree in memory, its steps as diagrams, and what building them answers.
+pub mod Rules
