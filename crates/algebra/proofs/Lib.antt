@@ -17,3 +17,8 @@ pub mod Listing
 pub mod Bracket
 pub mod Depends
 pub mod Gates
+pub mod Rules
+pub mod Canon
+pub mod SameChance
+pub mod Families
+pub mod Promises

@@ -1,6 +1,6 @@
 -- A triple is written into the first free slot and put at the head of its chain: the store's invariant holds again.
 -- Assumes nothing.
-use mathlib.Core.Path.{_≡_, refl, sym, ap, _∙_, subst}
+use mathlib.Core.Path.{_≡_, sym, ap, _∙_, subst}
 use mathlib.Core.Logic.{_≢_, _⊎_, inl, inr}
 use mathlib.Core.List.{List}
 use Prim.Native.Nat.{ℕ, _+_, _-_, _*_, _<_, _≤_}
@@ -9,11 +9,12 @@ use native.Mathlib.Omega.{arith}
 use lib.ListN.{getD, length, set, length-set}
 use lib.Seq.{getD-set-same, getD-set-other}
 use borrow.Author.Count.{below-more}
-use Rattle.paper.specs.Diagrams.{Diagram, node}
+use Rattle.paper.specs.Diagrams.{node}
 use Rattle.tables.specs.Table.{eventAt, failedAt, soundAt, den}
-use Rattle.tables.specs.Stored.{Lower, Unique, ZeroBehind, Kept}
+use Rattle.tables.specs.Stored.{Lower, Unique}
 use Rattle.tables.proofs.Den.{den-slot}
-use Rattle.store.specs.Store.{firstSlot, First, chainAt, Triple, Absent, Last, Store, Grown, Put}
+use Rattle.tables.proofs.Growth.{kept-numbers}
+use Rattle.store.specs.Store.{firstSlot, First, chainAt, Absent, Last, Store, Grown, Put}
 use Rattle.store.proofs.Slots.{same-chain}
 use Rattle.store.proofs.Denotes.{den-grown, below-or-not}
 
@@ -52,11 +53,7 @@ module _ {T H X : List ℕ} {c e f s : ℕ} {T′ : List ℕ} (t : Store T H X c
   put-grown = record {
     more = omega arith;
     long = p .long;
-    kept = record {
-      event = λ k l. sym (p .same (3 * k) (omega arith));
-      failed = λ k l. sym (p .same (3 * k + 1) (omega arith));
-      sound = λ k l. sym (p .same (3 * k + 2) (omega arith));
-    };
+    kept = kept-numbers (λ q l. sym (p .same q l));
   }
 
   old-chain : (slots k : ℕ) → k < c → chainAt T′ slots k ≡ chainAt T slots k

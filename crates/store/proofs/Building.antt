@@ -2,9 +2,9 @@
 -- Assumes nothing.
 use mathlib.Core.Path.{_≡_, refl, sym, ap, _∙_, subst}
 use mathlib.Core.Logic.{_≢_, _⊎_, inl, inr}
-use mathlib.Core.Bool.{true, false, false≢true}
+use mathlib.Core.Bool.{false, false≢true}
 use mathlib.Core.List.{List}
-use Prim.Native.Nat.{ℕ, zero, suc, _+_, _-_, _*_, _/_, _<_, _≤_}
+use Prim.Native.Nat.{ℕ, zero, suc, _+_, _-_, _*_, _<_, _≤_}
 use native.Mathlib.Omega.{arith}
 use lib.ListN.{getD, length, set}
 use Rattle.paper.specs.Lists.{In}
@@ -15,14 +15,13 @@ use Rattle.algebra.proofs.Base.{mk-same, mk-node}
 use Rattle.algebra.proofs.Lists.{in-append}
 use Rattle.algebra.proofs.Subs.{subs-self, subs-trans}
 use Rattle.algebra.proofs.Without.{mkz-cases}
-use Rattle.tables.specs.Table.{eventOf, failedOf, soundOf, den}
-use Rattle.tables.specs.Stored.{Lower}
+use Rattle.tables.specs.Table.{failedOf, soundOf, den}
 use Rattle.tables.proofs.Den.{den-0, den-1, den-node}
-use Rattle.store.specs.Store.{First, Triple, Absent, Store, Grown, Put, Sought}
-use Rattle.store.specs.Building.{Is, Part, Found, Has, Step, Makes, Lacks, Stops, Builds, Only, Tidy}
+use Rattle.store.specs.Store.{First, Store, Put, Sought}
+use Rattle.store.specs.Building.{Is, Part, Found, Step, Makes, Lacks, Stops, Builds, Only, Tidy}
 use Rattle.store.specs.declared.Built.{Built}
 use Rattle.store.specs.declared.Built.the-variants.{Done, Short}
-use Rattle.store.proofs.Denotes.{below-or-not, grown-refl, grown-trans, den-grown, found-grown, leaf-no-node, same-node, den-inj}
+use Rattle.store.proofs.Denotes.{below-or-not, grown-refl, grown-trans, den-grown, found-grown, den-no-node, den-inj}
 use Rattle.store.proofs.Adding.{put-grown, store-more, den-more}
 
 -- ---- nothing is added
@@ -129,6 +128,9 @@ part-trans {C} {D} h E p = record { inside = subs-trans E C D (p .inside) h; nod
 
 -- ---- one node is sought, and added where it is not there
 
+same-node : {e e′ : ℕ} {f f′ s s′ : Diagram} → node e f s ≡ node e′ f′ s′ → (e ≡ e′) × (f ≡ f′) × (s ≡ s′)
+same-node p = (cc, cc, cc)
+
 -- what a triple denotes
 abbrev target : List ℕ → ℕ → ℕ → ℕ → Diagram
 target T e f s = node e (den T f) (den T s)
@@ -149,9 +151,9 @@ module _ {T H X : List ℕ} {c e f s : ℕ} (t : Store T H X c) where
     absent-den i l d = go (below-or-not i 2)
       where
         go : (i < 2) ⊎ (2 ≤ i) → ⊥
-        go (inl k) = false≢true (sym (leaf-no-node (t .lower) i k) ∙ ap isNode d)
+        go (inl k) = false≢true (sym (den-no-node (t .lower) i k) ∙ ap isNode d)
         go (inr k) =
-            let (x, y, z) = same-node (eventOf T i) e (den T (failedOf T i)) (den T f) (den T (soundOf T i)) (den T s) (sym (den-node (t .lower) i k l) ∙ d) in
+            let (x, y, z) = same-node (sym (den-node (t .lower) i k l) ∙ d) in
             let u = t .lower .failed (i - 2) (omega arith) in
             let v = t .lower .sound (i - 2) (omega arith) in
             q .miss r2 (i - 2) (omega arith) (record {

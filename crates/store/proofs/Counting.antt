@@ -1,28 +1,22 @@
 -- The number of stored nodes and the number of nodes needed: equal where all that is wanted is stored, and short where a full table lacks one.
 -- Assumes nothing.
-use mathlib.Core.Path.{_≡_, refl, sym, ap, _∙_, subst}
-use mathlib.Core.Logic.{_⊎_, inl, inr}
-use mathlib.Core.List.{List, [], _∷_, map}
-use Prim.Native.Nat.{ℕ, zero, suc, _+_, _-_, _/_, _<_, _≤_}
+use mathlib.Core.Path.{_≡_, sym, ap, _∙_, subst}
+use mathlib.Core.Logic.{inl, inr}
+use mathlib.Core.List.{List, _∷_, map}
+use Prim.Native.Nat.{ℕ, _+_, _-_, _/_, _<_}
 use native.Mathlib.Omega.{arith}
 use lib.ListN.{length}
-use Rattle.paper.specs.Lists.{In, keep, flat, distinct, Once, upTo}
+use Rattle.paper.specs.Lists.{In, keep, flat}
 use Rattle.paper.specs.Nodes.{nodesNeeded}
 use Rattle.paper.specs.Diagrams.{Diagram, eval, Diagram-discrete}
 use Rattle.algebra.specs.Operations.{subs, isNode, nodeCount}
 use Rattle.algebra.proofs.Lists.{in-flat, flat-in, in-keep, keep-in, distinct-once, distinct-le, distinct-same}
-use Rattle.algebra.proofs.Base.{Three, below, beyond, equal, three}
 use Rattle.algebra.proofs.Plain.{Good, count-law}
 use Rattle.tables.specs.Table.{den}
+use Rattle.tables.proofs.Once.{dens, dens-length, in-dens, dens-in, dens-once}
 use Rattle.store.specs.Store.{Store}
-use Rattle.store.specs.Building.{Part, Found, Has, Lacks, Only}
-use Rattle.store.proofs.Denotes.{den-inj, found-whole}
-
--- E is a node of one of these diagrams
-pub record PartOf (ds : List Diagram) (E : Diagram) : Type 0 where
-  pub whole : Diagram
-  pub member : In whole ds
-  pub part : Part whole E
+use Rattle.store.specs.Building.{PartOf, Found, Lacks, Only}
+use Rattle.store.proofs.Denotes.{found-whole}
 
 pub part-in : {ds : List Diagram} {E : Diagram} → PartOf ds E → In E (keep isNode (flat subs ds))
 part-in {ds} {E} p = in-keep isNode E (flat subs ds) (in-flat subs E (p .whole) ds (p .member) (p .part .inside)) (p .part .node)
@@ -35,75 +29,41 @@ in-part {ds} {E} h =
 
 -- ---- the stored diagrams, each once
 
-stored : List ℕ → ℕ → ℕ → List Diagram
-stored T k m = map (λ j. den T (j + 2)) (upTo k m)
-
 module _ {T H X : List ℕ} {c : ℕ} (s : Store T H X c) where
-  in-stored : (k m j : ℕ) → m ≤ j → j < m + k → In (den T (j + 2)) (stored T k m)
-  unfolding stored
-  in-stored zero m j a b = absurd (omega arith)
-  in-stored (suc k) m j a b = go (three m j) (in-stored k (suc m) j)
-    where
-      go : Three m j → (suc m ≤ j → j < suc m + k → In (den T (j + 2)) (stored T k (suc m))) → In (den T (j + 2)) (stored T (suc k) m)
-      go (below l u) r = inr (r l (omega arith))
-      go (beyond l u w) r = absurd (omega arith)
-      go (equal l u w) r = inl (ap (λ x. den T (x + 2)) (sym l))
-
-  stored-in : (k m : ℕ) (x : Diagram) → In x (stored T k m) → (j : ℕ) × (m ≤ j) × (j < m + k) × (x ≡ den T (j + 2))
-  unfolding stored
-  stored-in zero m x h = absurd h
-  stored-in (suc k) m x (inl e) = (m, omega arith, omega arith, e)
-  stored-in (suc k) m x (inr h) = let (j, a, b, e) = stored-in k (suc m) x h in (j, omega arith, omega arith, e)
-
-  stored-once : (k m : ℕ) → m + k ≤ c → Once (stored T k m)
-  unfolding stored
-  stored-once zero m h = tt
-  stored-once (suc k) m h = (
-    (λ i. let (j, a, b, e) = stored-in k (suc m) (den T (m + 2)) i in
-        let same : m + 2 ≡ j + 2 = den-inj s (m + 2) (j + 2) (omega arith) (omega arith) e in
-        let bad : ⊥ = omega arith in bad),
-    stored-once k (suc m) (omega arith),
-  )
-
-  stored-length : (k m : ℕ) → length (stored T k m) ≡ k
-  unfolding stored
-  stored-length zero m = refl
-  stored-length (suc k) m = ap suc (stored-length k (suc m))
-
   module _ (ds : List Diagram) (only : Only (PartOf ds) T c) where
-    belongs : (x : Diagram) → In x (stored T c 0) → In x (keep isNode (flat subs ds))
+    belongs : (x : Diagram) → In x (dens T c) → In x (keep isNode (flat subs ds))
     belongs x h =
-        let (j, a, b, e) = stored-in c 0 x h in
+        let (j, a, b, e) = dens-in T c 0 x h in
         subst (λ y. In y (keep isNode (flat subs ds))) (sym e) (part-in (only .each (j + 2) (omega arith) (omega arith)))
 
     -- all that is stored is wanted, and all that is wanted is stored
     pub nodes-done : ((d : Diagram) → In d ds → (r : ℕ) × Found T c d r) → c ≡ nodeCount ds
     unfolding nodeCount
     nodes-done f =
-        sym (stored-length c 0) ∙ sym (distinct-once Diagram-discrete (stored T c 0) (stored-once c 0 (omega arith)))
-        ∙ distinct-same Diagram-discrete (stored T c 0) (keep isNode (flat subs ds)) belongs back
+        sym (dens-length T c 0) ∙ sym (distinct-once Diagram-discrete (dens T c) (dens-once (s .lower) (s .unique) c 0 (omega arith)))
+        ∙ distinct-same Diagram-discrete (dens T c) (keep isNode (flat subs ds)) belongs back
       where
-        back : (x : Diagram) → In x (keep isNode (flat subs ds)) → In x (stored T c 0)
+        back : (x : Diagram) → In x (keep isNode (flat subs ds)) → In x (dens T c)
         back x h =
             let p = in-part {ds = ds} {E = x} h in
             let (r, found) = f (p .whole) (p .member) in
             let w = found-whole (s .lower) found x (p .part) in
             let z : w .at - 2 + 2 ≡ w .at = omega (arith, w .low) in
-            subst (λ y. In y (stored T c 0)) (ap (den T) z ∙ w .is) (in-stored c 0 (w .at - 2) (omega arith) (omega (arith, w .low, w .high)))
+            subst (λ y. In y (dens T c)) (ap (den T) z ∙ w .is) (in-dens T c 0 (w .at - 2) (omega arith) (omega (arith, w .low, w .high)))
 
     -- all that is stored is wanted, and a wanted node is not stored
     pub nodes-lack : {x : Diagram} → PartOf ds x → ((i : ℕ) → i < c + 2 → den T i ≡ x → ⊥) → c < nodeCount ds
     unfolding nodeCount
     nodes-lack {x} p n =
-        let e = distinct-once Diagram-discrete (x ∷ stored T c 0) (fresh, stored-once c 0 (omega arith)) in
-        let l = distinct-le Diagram-discrete (x ∷ stored T c 0) (keep isNode (flat subs ds)) all in
-        let k = stored-length c 0 in
+        let e = distinct-once Diagram-discrete (x ∷ dens T c) (fresh, dens-once (s .lower) (s .unique) c 0 (omega arith)) in
+        let l = distinct-le Diagram-discrete (x ∷ dens T c) (keep isNode (flat subs ds)) all in
+        let k = dens-length T c 0 in
         omega arith
       where
-        fresh : In x (stored T c 0) → ⊥
-        fresh h = let (j, a, b, e) = stored-in c 0 x h in n (j + 2) (omega arith) (sym e)
+        fresh : In x (dens T c) → ⊥
+        fresh h = let (j, a, b, e) = dens-in T c 0 x h in n (j + 2) (omega arith) (sym e)
 
-        all : (y : Diagram) → In y (x ∷ stored T c 0) → In y (keep isNode (flat subs ds))
+        all : (y : Diagram) → In y (x ∷ dens T c) → In y (keep isNode (flat subs ds))
         all y (inl e) = subst (λ y. In y (keep isNode (flat subs ds))) (sym e) (part-in p)
         all y (inr h) = belongs y h
 

@@ -1,14 +1,13 @@
 -- The search along a chain of falling node numbers.
 -- Assumes nothing.
-use mathlib.Core.Path.{_≡_, refl, sym, _∙_, subst}
-use mathlib.Core.Logic.{_⊎_, inl, inr}
-use mathlib.Core.Bool.{Bool, true, false, true≢false, false≢true}
+use mathlib.Core.Path.{_≡_, sym, _∙_, subst}
+use mathlib.Core.Bool.{true, false, true≢false, false≢true}
 use mathlib.Core.List.{List}
 use Prim.Native.Nat.{ℕ, _+_, _-_, _<_, _≤_}
 use native.Mathlib.Omega.{arith}
 use lib.ListN.{getD, length}
 use Rattle.algebra.proofs.Base.{Three, below, beyond, equal, three}
-use Rattle.store.specs.Store.{firstSlot, First, chainAt, Triple, Absent, Last, Store, Sought}
+use Rattle.store.specs.Store.{firstSlot, First, chainAt, Triple, Last, Store, Sought}
 use Rattle.store.proofs.Slots.{same-chain}
 
 -- what the test of one slot tells

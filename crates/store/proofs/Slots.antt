@@ -1,11 +1,11 @@
 -- The first slot of a triple: below the number of slots, and the same for equal triples.
 -- Assumes nothing.
-use mathlib.Core.Path.{_≡_, refl}
+use mathlib.Core.Path.{_≡_}
 use mathlib.Core.List.{List}
 use Prim.Native.Nat.{ℕ, _+_, _*_, _/_, _%_, _<_, _≤_, min}
 use native.Mathlib.Nat.{mul-lt-mul-of-pos-right}
 use native.Mathlib.Omega.{arith}
-use Rattle.store.specs.Store.{firstSlot, First, chainAt, Triple}
+use Rattle.store.specs.Store.{firstSlot, chainAt, Triple}
 
 -- a number of 32 bits scaled to so many places
 scaled : (y m : ℕ) → y < 4294967296 → 1 ≤ m → y * m < 4294967296 * m

@@ -23,6 +23,12 @@ pub record Part (D E : Diagram) : Type 0 where
   pub inside : In E (subs D)
   pub node : isNode E ≡ true
 
+-- E is a node of one of these diagrams
+pub record PartOf (ds : List Diagram) (E : Diagram) : Type 0 where
+  pub whole : Diagram
+  pub member : In whole ds
+  pub part : Part whole E
+
 -- number r denotes D
 pub record Found (T : List ℕ) (c : ℕ) (D : Diagram) (r : ℕ) : Type 0 where
   pub within : r < c + 2

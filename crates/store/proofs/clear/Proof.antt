@@ -5,8 +5,6 @@ use lib.ListN.{length}
 use Rattle.store.proofs.Zeros.{Cleared, cleared-none, cleared-more, cleared-all}
 use Rattle.store.proofs.clear.Statement.{statement}
 use Rattle.store.proofs.clear.Tie as tie
-use Rattle.store.proofs.clear.Reads as reads
-use Rattle.store.proofs.clear.Lts as lts
 
 abbrev Inv-loop : tie.InvT-loop
 Inv-loop area₀ i₀ area i = Cleared area₀ i area

@@ -4,9 +4,6 @@ use lib.ListN.{length}
 use Rattle.store.proofs.Search.{Seek, seek-start, seek-less, seek-next, seek-hit, seek-miss}
 use Rattle.store.proofs.find.Statement.{statement}
 use Rattle.store.proofs.find.Tie as tie
-use Rattle.store.proofs.find.Reads as reads
-use Rattle.store.proofs.find.Lts as lts
-use Rattle.store.proofs.holds.Reads as holds-reads
 
 abbrev Inv-loop : tie.InvT-loop
 Inv-loop nodes heads next count h e failed sound i₀ i = Seek nodes (length heads) count e failed sound i

@@ -3,11 +3,6 @@ use Rattle.store.proofs.Building.{made-old, made-short, made-new}
 use borrow.Author.Needs.{needs}
 use Rattle.store.proofs.find_or_add.Statement.{statement}
 use Rattle.store.proofs.find_or_add.Tie as tie
-use Rattle.store.proofs.find_or_add.Reads as reads
-use Rattle.store.proofs.find_or_add.Lts as lts
-use Rattle.store.proofs.find.Reads as find-reads
-use Rattle.store.proofs.first_slot.Reads as first-slot-reads
-use Rattle.store.proofs.put.Reads as put-reads
 
 first-slot-requires : tie.Need-first-slot-requires
 first-slot-requires c κs = search needs

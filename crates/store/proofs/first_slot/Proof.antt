@@ -6,9 +6,6 @@ use Rattle.store.proofs.Slots.{scaled-fits, first-below}
 use borrow.Author.Needs.{needs}
 use Rattle.store.proofs.first_slot.Statement.{statement}
 use Rattle.store.proofs.first_slot.Tie as tie
-use Rattle.store.proofs.first_slot.Reads as reads
-use Rattle.store.proofs.first_slot.Lts as lts
-use Rattle.store.proofs.usable.Reads as usable-reads
 
 mul-x : tie.Need-mul-x
 mul-x c = search needs

@@ -4,8 +4,6 @@ use borrow.Author.Tests.{eqb-true}
 use borrow.Author.Needs.{needs}
 use Rattle.store.proofs.hit.Statement.{statement}
 use Rattle.store.proofs.hit.Tie as tie
-use Rattle.store.proofs.hit.Reads as reads
-use Rattle.store.proofs.hit.Lts as lts
 
 returns : tie.Need-returns
 returns c = λ e. absurd (false≢true e)

@@ -2,8 +2,6 @@ use Rattle.store.proofs.Search.{says-yes, says-no}
 use borrow.Author.Needs.{needs}
 use Rattle.store.proofs.holds.Statement.{statement}
 use Rattle.store.proofs.holds.Tie as tie
-use Rattle.store.proofs.holds.Reads as reads
-use Rattle.store.proofs.holds.Lts as lts
 
 mul-at : tie.Need-mul-at
 mul-at c = search needs

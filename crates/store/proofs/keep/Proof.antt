@@ -4,8 +4,6 @@ use Rattle.store.proofs.Memory.{keeps-none, keeps-at}
 use borrow.Author.Needs.{needs}
 use Rattle.store.proofs.keep.Statement.{statement}
 use Rattle.store.proofs.keep.Tie as tie
-use Rattle.store.proofs.keep.Reads as reads
-use Rattle.store.proofs.keep.Lts as lts
 
 returns : tie.Need-returns
 returns c = keeps-none

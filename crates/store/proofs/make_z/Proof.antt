@@ -2,9 +2,6 @@ use Rattle.store.proofs.Building.{made-none, made-cut}
 use borrow.Author.Needs.{needs}
 use Rattle.store.proofs.make_z.Statement.{statement}
 use Rattle.store.proofs.make_z.Tie as tie
-use Rattle.store.proofs.make_z.Reads as reads
-use Rattle.store.proofs.make_z.Lts as lts
-use Rattle.store.proofs.find_or_add.Reads as find-or-add-reads
 
 returns : tie.Need-returns
 returns c = let s = c .before .before .before .before in made-none (s .pre .0) (s .args .e) (s .pre .1 .0) (s .pre .1 .1) (c .if1 .taken)

@@ -2,9 +2,6 @@ use Rattle.store.proofs.Memory.{place-none, place-at}
 use borrow.Author.Needs.{needs}
 use Rattle.store.proofs.place.Statement.{statement}
 use Rattle.store.proofs.place.Tie as tie
-use Rattle.store.proofs.place.Reads as reads
-use Rattle.store.proofs.place.Lts as lts
-use Rattle.store.proofs.first_slot.Reads as first-slot-reads
 
 returns : tie.Need-returns
 returns c = place-none (c .if1 .taken)

@@ -4,8 +4,6 @@ use Rattle.store.proofs.Adding.{put-written}
 use borrow.Author.Needs.{needs}
 use Rattle.store.proofs.put.Statement.{statement}
 use Rattle.store.proofs.put.Tie as tie
-use Rattle.store.proofs.put.Reads as reads
-use Rattle.store.proofs.put.Lts as lts
 
 mul-at : tie.Need-mul-at
 mul-at c = search needs

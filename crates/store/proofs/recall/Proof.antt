@@ -3,10 +3,6 @@ use Rattle.store.proofs.Memory.{there-hit}
 use borrow.Author.Needs.{needs}
 use Rattle.store.proofs.recall.Statement.{statement}
 use Rattle.store.proofs.recall.Tie as tie
-use Rattle.store.proofs.recall.Reads as reads
-use Rattle.store.proofs.recall.Lts as lts
-use Rattle.store.proofs.hit.Reads as hit-reads
-use Rattle.store.proofs.place.Reads as place-reads
 
 place-requires : tie.Need-place-requires
 place-requires c κs = search needs
