@@ -1,2 +1,6 @@
--- The laws of building: the at-least rule.
+-- The laws of building: the rules at diagrams, steps in a row, the tree in memory.
 pub mod AtLeast
+pub mod Joining
+pub mod Gates
+pub mod Making
+pub mod Stages

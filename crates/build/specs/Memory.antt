@@ -1,0 +1,41 @@
+-- A tree in memory: the kind, the k and the n of each gate, and the inputs of all gates in a row.
+-- Assumes nothing.
+use mathlib.Core.Bool.{cond}
+use mathlib.Core.List.{List, [], _∷_, map}
+use Prim.Native.Nat.{ℕ, _+_, _-_, _≤_, _<_}
+use lib.Dec.{ltb, eqb}
+use lib.ListN.{length, getD, take, drop}
+use Rattle.paper.specs.Lists.{sum}
+use Rattle.paper.specs.Limits.{limits}
+use Rattle.paper.specs.Trees.{Input, event, gate, Gate, andG, orG, leastG}
+
+-- the input that stands for gate 0: an event's input is its number, and a gate's is its number with this added
+abbrev pub gatesFrom : ℕ
+gatesFrom = 256
+
+abbrev pub inputOf : ℕ → Input
+inputOf code = cond (ltb code gatesFrom) (event code) (gate (code - gatesFrom))
+
+abbrev pub gateOf : ℕ → ℕ → List Input → Gate
+gateOf kind k is = cond (eqb kind 2) (andG is) (cond (eqb kind 3) (orG is) (leastG k is))
+
+-- the gates from g on, each with its n of the inputs that are left
+unfoldable pub gatesOf : List ℕ → List ℕ → ℕ → List ℕ → List ℕ → List Gate
+gatesOf kinds leasts g [] inputs = []
+gatesOf kinds leasts g (n ∷ sizes) inputs =
+    gateOf (getD kinds g 0) (getD leasts g 0) (map inputOf (take n inputs)) ∷ gatesOf kinds leasts (g + 1) sizes (drop n inputs)
+
+-- the inputs of gate g start behind those of the gates before
+abbrev pub startOf : List ℕ → ℕ → ℕ
+startOf sizes g = sum (take g sizes)
+
+-- what a tree that was accepted keeps, and that the gate list is long enough
+pub record Plan (kinds leasts sizes inputs list : List ℕ) : Type 0 where
+  pub has-kinds : length sizes ≤ length kinds
+  pub has-leasts : length sizes ≤ length leasts
+  pub has-inputs : sum sizes ≤ length inputs
+  pub has-list : length sizes ≤ length list
+  pub some : (g : ℕ) → g < length sizes → 1 ≤ getD sizes g 0
+  pub few : (g : ℕ) → g < length sizes → getD sizes g 0 ≤ limits .inputs
+  pub least : (g : ℕ) → g < length sizes → getD leasts g 0 ≤ getD sizes g 0
+  pub earlier : (g j : ℕ) → g < length sizes → j < getD sizes g 0 → getD inputs (startOf sizes g + j) 0 < gatesFrom + g
