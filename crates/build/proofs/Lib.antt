@@ -4,3 +4,7 @@ pub mod Joining
 pub mod Gates
 pub mod Making
 pub mod Stages
+pub mod Folding
+pub mod Inputs
+pub mod Taking
+pub mod ByKind

@@ -18,7 +18,7 @@ use Rattle.store.specs.Store.{Store, Grown}
 use Rattle.store.specs.Building.{Is, Part, PartOf, Found, Step, Makes, Stops}
 use Rattle.store.proofs.Denotes.{found-grown}
 use Rattle.store.proofs.Building.{step-here, step-more, stops-more, step-seq, stops-seq, is-part}
-use Rattle.build.specs.Making.{All, Row, Made}
+use Rattle.build.specs.Making.{All, Row, Within, Made}
 
 -- ---- the leaves
 
@@ -60,18 +60,18 @@ module _ {T T′ : List ℕ} {c c′ : ℕ} (low : Lower T c) (grown : Grown T c
 -- ---- numbers in a row
 
 module _ (T : List ℕ) where
-  at-map : (R : List ℕ) (j : ℕ) → j < length R → getD (map (den T) R) j (leaf false) ≡ den T (getD R j 0)
+  pub at-map : (R : List ℕ) (j : ℕ) → j < length R → getD (map (den T) R) j (leaf false) ≡ den T (getD R j 0)
   at-map [] j h = absurd (omega arith)
   at-map (r ∷ R) zero h = refl
   at-map (r ∷ R) (suc j) h = at-map R j (omega arith)
 
-  map-long : (R : List ℕ) → length (map (den T) R) ≡ length R
+  pub map-long : (R : List ℕ) → length (map (den T) R) ≡ length R
   map-long [] = refl
   map-long (r ∷ R) = ap suc (map-long R)
 
-pub row-here : {T : List ℕ} {c : ℕ} {R : List ℕ} → ((j : ℕ) → j < length R → getD R j 0 < c + 2) → Row T c (map (den T) R) R
+pub row-here : {T : List ℕ} {c : ℕ} {R : List ℕ} → Within c R → Row T c (map (den T) R) R
 row-here {T} {c} {R} w = record {
-  each = λ j l. let h : j < length R = let e = map-long T R in omega arith in record { within = w j h; is = sym (at-map T R j h) };
+  each = λ j l. let h : j < length R = let e = map-long T R in omega arith in record { within = w .each j h; is = sym (at-map T R j h) };
 }
 
 pub row-map : {T : List ℕ} {c : ℕ} {ds : List Diagram} {R : List ℕ} → length R ≡ length ds → Row T c ds R → map (den T) R ≡ ds

@@ -120,14 +120,14 @@ module _ {k : ℕ} (ds : List Diagram) {i j : ℕ} (due : Due k (length ds) i j)
   is-pair = ap (λ m. joinD true both (leastD m (drop (i + 1) ds))) (sym back)
 
   -- both are steps
-  pub due-steps : (d : Diagram) → In d (whole ∷ (both ∷ [])) → In d (leastStepsD k ds)
+  pub due-steps : (d : Diagram) → In d (both ∷ (whole ∷ [])) → In d (leastStepsD k ds)
   due-steps d h = reached d i k ds j (due .some) (due .fits) (due .low) (due .high) (subst (λ xs. In d (leastStepsD j xs)) (sym front)
       (subst (λ m. In d (leastStepsD m (getD ds i (leaf false) ∷ drop (i + 1) ds))) back
       (rw (steps-one (j - 1) (getD ds i (leaf false)) (drop (i + 1) ds) rest) (go h))))
     where
-      go : In d (whole ∷ (both ∷ [])) → In d (pair (j - 1) (getD ds i (leaf false)) (drop (i + 1) ds) ∷ (both ∷ (leastStepsD (j - 1) (drop (i + 1) ds) ++ leastStepsD (suc (j - 1)) (drop (i + 1) ds))))
-      go (inl e) = inl (e ∙ is-pair)
-      go (inr (inl e)) = inr (inl e)
+      go : In d (both ∷ (whole ∷ [])) → In d (pair (j - 1) (getD ds i (leaf false)) (drop (i + 1) ds) ∷ (both ∷ (leastStepsD (j - 1) (drop (i + 1) ds) ++ leastStepsD (suc (j - 1)) (drop (i + 1) ds))))
+      go (inl e) = inr (inl e)
+      go (inr (inl e)) = inl (e ∙ is-pair)
       go (inr (inr h)) = absurd h
 
   module _ {T : List ℕ} {c : ℕ} {R : List ℕ} (a : Taking T c k ds i j R) where
@@ -138,11 +138,11 @@ module _ {k : ℕ} (ds : List Diagram) {i j : ℕ} (due : Due k (length ds) i j)
     pub more-here : Found T c (leastD j (drop (i + 1) ds)) (getD R j 0)
     more-here = let l = due .low in let h = due .high in a .left j (omega arith) (omega arith) (omega arith) .here
 
-    module _ (low : Lower T c) {T′ : List ℕ} {c′ r : ℕ} (grown : Grown T c T′ c′) (room : j < length R) (f : Found T′ c′ whole r) (all : All T′ c′ (whole ∷ (both ∷ []))) where
+    module _ (low : Lower T c) {T′ : List ℕ} {c′ r : ℕ} (grown : Grown T c T′ c′) (room : j < length R) (f : Found T′ c′ whole r) (all : All T′ c′ (both ∷ (whole ∷ []))) where
       new : Pair T′ c′ (drop i ds) j r
       new =
           let s = due .some in let l = due .low in let h = due .high in
-          let (q, g) = all .each both (inr (inl refl)) in
+          let (q, g) = all .each both (inl refl) in
           let p = pair-grown low grown (a .left (j - 1) (omega arith) (omega arith) (omega arith)) in
           let m = pair-grown low grown (a .left j (omega arith) (omega arith) (omega arith)) in
           subst (λ xs. Pair T′ c′ xs j r) (sym front) (subst (λ m. Pair T′ c′ (getD ds i (leaf false) ∷ drop (i + 1) ds) m r) back

@@ -1,0 +1,48 @@
+-- INTERIM copy
+use mathlib.Core.Path.{_≡_}
+use mathlib.Core.Bool.{Bool}
+use mathlib.Core.List.{List}
+use Prim.Native.Nat.{ℕ, _+_, _-_, _<_, _≤_, min, max}
+use lib.Dec.{eqb}
+use lib.ListN.{length}
+use Rattle.paper.specs.Diagrams.{Diagram, mkD}
+use Rattle.algebra.specs.Operations.{joinD}
+use Rattle.tables.specs.Table.{den}
+use Rattle.store.specs.Store.{Store}
+use Rattle.store.specs.Building.{Is, Part, Found, Makes, Stops, Tidy}
+use Rattle.store.specs.Memo.{Memo, Place, Keeps}
+use Rattle.store.specs.declared.Built.{Built}
+use Rattle.store.specs.declared.Built.the-variants.{Done, Short}
+
+-- the leaf of number z: it decides, and with 0, or with 1
+abbrev pub bit : ℕ → Bool
+bit z = eqb z 1
+
+-- a result that the memo keeps is right: operation 1 is and, operation 2 is or
+pub record Right (T : List ℕ) (c op f g r : ℕ) : Type 0 where
+  pub op-low : 1 ≤ op
+  pub op-high : op ≤ 2
+  pub f-in : f < c + 2
+  pub g-in : g < c + 2
+  pub found : Found T c (joinD (bit (op - 1)) (den T f) (den T g)) r
+
+-- what joining f and g is handed
+pub record Ready (T H X M : List ℕ) (c z f g : ℕ) : Type 0 where
+  pub store : Store T H X c
+  pub tidy : Tidy T c
+  pub memo : Memo (Right T c) M
+  pub z-bit : z < 2
+  pub f-in : f < c + 2
+  pub g-in : g < c + 2
+
+-- what it hands back: D is made of its parts alone, every number still denotes a reduced diagram, and the memo is right for the table as it is now
+pub record Joined (T M : List ℕ) (c : ℕ) (D : Diagram) (T′ H′ X′ M′ : List ℕ) (c′ r : ℕ) : Type 0 where
+  pub makes : Makes (Part D) T c D T′ H′ X′ c′ r
+  pub tidy : Tidy T′ c′
+  pub memo : Memo (Right T′ c′) M′
+  pub long : length M′ ≡ length M
+
+-- or the table is full, and lacks a part of D
+abbrev pub Joins : (T M : List ℕ) (c : ℕ) (D : Diagram) (T′ H′ X′ M′ : List ℕ) → Built → Type 0
+Joins T M c D T′ H′ X′ M′ (Done r c′) = Joined T M c D T′ H′ X′ M′ c′ r
+Joins T M c D T′ H′ X′ M′ (Short c′) = Stops (Part D) T c T′ H′ X′ c′
