@@ -5,6 +5,6 @@ pub mod Gates
 pub mod Making
 pub mod Stages
 pub mod Folding
-pub mod Inputs
+pub mod Rows
 pub mod Taking
 pub mod ByKind

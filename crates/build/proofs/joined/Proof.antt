@@ -1,3 +1,11 @@
+use borrow.Author.Needs.{needs}
+use mathlib.Core.Path.{_≡_, refl, _∙_}
+use mathlib.Core.List.{map}
+use Prim.Native.Nat.{_-_}
+use native.Mathlib.Omega.{arith}
+use lib.ListN.{length}
+use Rattle.tables.specs.Table.{den}
+use Rattle.build.proofs.Folding.{Joining, joining-start, joining-ready, joining-next, joining-short, joining-end}
 use Rattle.build.proofs.joined.Statement.{statement}
 use Rattle.build.proofs.joined.Tie as tie
 use Rattle.build.proofs.joined.Reads as reads
@@ -5,90 +13,78 @@ use Rattle.build.proofs.joined.Lts as lts
 use Rattle.build.proofs.join.Reads as join-reads
 
 abbrev Inv-loop : tie.InvT-loop
-Inv-loop nodes₀ heads₀ next₀ memo₀ xs count z r₀ used₀ i₀ nodes heads next memo r used i = ?
+Inv-loop nodes₀ heads₀ next₀ memo₀ xs count z r₀ used₀ i₀ nodes heads next memo r used i =
+    (length heads ≡ length heads₀) × (length next ≡ length next₀) × (length memo ≡ length memo₀)
+    × Joining z (map (den nodes₀) xs) nodes₀ count xs i nodes heads next memo used r
 
 abbrev μ-loop : tie.MeasureT-loop
-μ-loop nodes₀ heads₀ next₀ memo₀ xs count z r₀ used₀ i₀ nodes heads next memo r used i = ?
+μ-loop nodes₀ heads₀ next₀ memo₀ xs count z r₀ used₀ i₀ nodes heads next memo r used i = length xs - i
 
--- src/lib.rt:56:17
 shared-slice-read-r : tie.Need-shared-slice-read-r Inv-loop μ-loop
-shared-slice-read-r c = ?
+shared-slice-read-r c = search needs
 
--- src/lib.rt:59:5
 loop-holds : tie.Need-loop-holds Inv-loop μ-loop
-loop-holds c = ?
+loop-holds c = (refl, refl, refl, joining-start _ (c .before .before .before .before .before .before .pre .0) (c .before .before .before .before .before .before .pre .1) (c .before .before .before .before .before .before .pre .2))
 
--- src/lib.rt:60:58
 mul-join : tie.Need-mul-join Inv-loop μ-loop
-mul-join c = ?
+mul-join c = search needs
 
--- src/lib.rt:60:58
 shared-slice-read-join : tie.Need-shared-slice-read-join Inv-loop μ-loop
-shared-slice-read-join c = ?
+shared-slice-read-join c = search needs
 
--- src/lib.rt:60:15
 join-requires : tie.Need-join-requires Inv-loop μ-loop
-join-requires c κs = ?
+join-requires c κs = joining-ready (c .before .before .before .before .before .before .loop .inv .3) (c .before .before .before .before .before .loop-test .taken) (c .before .before .before .before .before .before .before .before .before .before .before .before .before .pre .3)
 
--- src/lib.rt:61:25
 enum-known-node : tie.Need-enum-known-node Inv-loop μ-loop
-enum-known-node c = ?
+enum-known-node c = search needs
 
--- src/lib.rt:65:26
 enum-known-to : tie.Need-enum-known-to Inv-loop μ-loop
-enum-known-to c = ?
+enum-known-to c = search needs
 
--- src/lib.rt:65:33
 same-length : tie.Need-same-length Inv-loop μ-loop
-same-length c = ?
+same-length c = c .before .before .before .before .before .before .before .before .before .before .before .join .kept .0 ∙ c .before .before .before .before .before .before .before .before .before .before .before .before .before .before .before .before .before .before .loop .inv .3 .gained .made .step .grown .long
 
--- src/lib.rt:65:33
 same-length-2 : tie.Need-same-length-2 Inv-loop μ-loop
-same-length-2 c = ?
+same-length-2 c = c .before .before .before .before .before .before .before .before .before .before .before .join .kept .1 ∙ c .before .before .before .before .before .before .before .before .before .before .before .before .before .before .before .before .before .before .loop .inv .0
 
--- src/lib.rt:65:33
 same-length-3 : tie.Need-same-length-3 Inv-loop μ-loop
-same-length-3 c = ?
+same-length-3 c = c .before .before .before .before .before .before .before .before .before .before .before .join .kept .2 ∙ c .before .before .before .before .before .before .before .before .before .before .before .before .before .before .before .before .before .before .loop .inv .1
 
--- src/lib.rt:65:33
 same-length-4 : tie.Need-same-length-4 Inv-loop μ-loop
-same-length-4 c = ?
+same-length-4 c = c .before .before .before .before .before .before .before .before .before .before .before .join .kept .3 ∙ c .before .before .before .before .before .before .before .before .before .before .before .before .before .before .before .before .before .before .loop .inv .2
 
--- src/lib.rt:65:33
 returns : tie.Need-returns Inv-loop μ-loop
-returns c = ?
+returns c = joining-short (c .before .before .before .before .before .before .before .before .before .before .before .before .before .before .before .before .before .before .loop .inv .3) (c .before .before .before .before .before .before .before .before .before .before .before .before .before .before .before .before .before .loop-test .taken) (rw (c .before .to .given .1) at (c .before .before .before .before .before .before .before .before .before .before .before .join .ensures))
 
--- src/lib.rt:67:9
 add-i : tie.Need-add-i Inv-loop μ-loop
-add-i c = ?
+add-i c = search needs
 
--- src/lib.rt:59:5
 loop-less : tie.Need-loop-less Inv-loop μ-loop
-loop-less c = ?
+loop-less c = search needs
 
--- src/lib.rt:59:5
 loop-again : tie.Need-loop-again Inv-loop μ-loop
-loop-again c = ?
+loop-again c =
+    (
+    c .before .before .before .before .before .before .before .before .before .before .before .join .kept .1 ∙ c .before .before .before .before .before .before .before .before .before .before .before .before .before .before .before .before .before .before .loop .inv .0,
+    c .before .before .before .before .before .before .before .before .before .before .before .join .kept .2 ∙ c .before .before .before .before .before .before .before .before .before .before .before .before .before .before .before .before .before .before .loop .inv .1,
+    c .before .before .before .before .before .before .before .before .before .before .before .join .kept .3 ∙ c .before .before .before .before .before .before .before .before .before .before .before .before .before .before .before .before .before .before .loop .inv .2,
+    joining-next (c .before .before .before .before .before .before .before .before .before .before .before .before .before .before .before .before .before .before .loop .inv .3) (c .before .before .before .before .before .before .before .before .before .before .before .before .before .before .before .before .before .loop-test .taken) (rw (c .before .node .given .1) at (c .before .before .before .before .before .before .before .before .before .before .before .join .ensures)),
+    )
 
--- src/lib.rt:41:1
 same-length-5 : tie.Need-same-length-5 Inv-loop μ-loop
-same-length-5 c = ?
+same-length-5 c = c .before .loop .inv .3 .gained .made .step .grown .long
 
--- src/lib.rt:41:1
 same-length-6 : tie.Need-same-length-6 Inv-loop μ-loop
-same-length-6 c = ?
+same-length-6 c = search needs
 
--- src/lib.rt:41:1
 same-length-7 : tie.Need-same-length-7 Inv-loop μ-loop
-same-length-7 c = ?
+same-length-7 c = search needs
 
--- src/lib.rt:41:1
 same-length-8 : tie.Need-same-length-8 Inv-loop μ-loop
-same-length-8 c = ?
+same-length-8 c = search needs
 
--- src/lib.rt:41:1
 returns-2 : tie.Need-returns-2 Inv-loop μ-loop
-returns-2 c = ?
+returns-2 c = joining-end (c .before .loop .inv .3) (c .loop-test .left)
 
 pub joined-spec : {M : Type 1} → statement M
 joined-spec =

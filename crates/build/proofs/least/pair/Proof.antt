@@ -1,65 +1,52 @@
 use borrow.Author.Needs.{needs}
+use Rattle.build.proofs.Taking.{first-ready, second-ready, pair-first, pair-second}
 use Rattle.build.proofs.least.pair.Statement.{statement}
 use Rattle.build.proofs.least.pair.Tie as tie
 use Rattle.build.proofs.least.pair.Reads as reads
 use Rattle.build.proofs.least.pair.Lts as lts
 use Rattle.build.proofs.join.Reads as join-reads
 
--- src/least.rt:58:11
 join-requires : tie.Need-join-requires
-join-requires c κs = search needs
+join-requires c κs = first-ready (c .before .before .before .before .before .before .before .before .pre .0) (c .before .before .before .before .before .before .before .before .pre .1) (c .before .before .before .before .before .before .before .before .pre .2) (c .before .before .before .before .before .before .before .before .pre .3)
 
--- src/least.rt:59:21
 enum-known-both : tie.Need-enum-known-both
 enum-known-both c = search needs
 
--- src/least.rt:59:36
 join-requires-2 : tie.Need-join-requires-2
-join-requires-2 c κs = ?
+join-requires-2 c κs = second-ready (c .before .before .before .before .before .before .before .before .before .before .before .before .before .before .before .before .before .before .before .before .before .before .before .before .pre .0) (c .before .before .before .before .before .before .before .before .before .before .before .before .before .before .before .before .before .before .before .before .before .before .before .before .pre .1) (c .before .before .before .before .before .before .before .before .before .before .before .before .before .before .before .before .before .before .before .before .before .before .before .before .pre .2) (c .before .before .before .before .before .before .before .before .before .before .before .before .before .before .before .before .before .before .before .before .before .before .before .before .pre .3) (rw (c .before .before .before .before .before .both .given .1) at (c .before .before .before .before .before .before .before .before .before .before .before .before .before .before .before .join .ensures))
 
--- src/least.rt:60:22
 enum-known-used : tie.Need-enum-known-used
 enum-known-used c = search needs
 
--- src/least.rt:42:1
 same-length : tie.Need-same-length
 same-length c = search needs
 
--- src/least.rt:42:1
 same-length-2 : tie.Need-same-length-2
 same-length-2 c = search needs
 
--- src/least.rt:42:1
 same-length-3 : tie.Need-same-length-3
 same-length-3 c = search needs
 
--- src/least.rt:42:1
 same-length-4 : tie.Need-same-length-4
 same-length-4 c = search needs
 
--- src/least.rt:42:1
 returns : tie.Need-returns
-returns c = ?
+returns c = pair-second (c .before .before .before .before .before .before .before .before .before .before .before .before .before .before .before .before .before .before .before .before .before .before .before .before .before .before .before .before .before .before .before .before .before .pre .0) (c .before .before .before .before .before .before .before .before .before .before .before .before .before .before .before .before .before .before .before .before .before .before .before .before .before .before .before .before .before .before .before .before .before .pre .1) (c .before .before .before .before .before .before .before .before .before .before .before .before .before .before .before .before .before .before .before .before .before .before .before .before .before .before .before .before .before .before .before .before .before .pre .2) (c .before .before .before .before .before .before .before .before .before .before .before .before .before .before .before .before .before .before .before .before .before .before .before .before .before .before .before .before .before .before .before .before .before .pre .3) (rw (c .before .before .before .before .before .before .before .before .before .before .before .before .before .before .both .given .1) at (c .before .before .before .before .before .before .before .before .before .before .before .before .before .before .before .before .before .before .before .before .before .before .before .before .join .ensures)) _ _ _ _ _ (c .before .before .before .before .before .before .before .before .join2 .ensures)
 
--- src/least.rt:42:1
 same-length-5 : tie.Need-same-length-5
 same-length-5 c = search needs
 
--- src/least.rt:42:1
 same-length-6 : tie.Need-same-length-6
 same-length-6 c = search needs
 
--- src/least.rt:42:1
 same-length-7 : tie.Need-same-length-7
 same-length-7 c = search needs
 
--- src/least.rt:42:1
 same-length-8 : tie.Need-same-length-8
 same-length-8 c = search needs
 
--- src/least.rt:42:1
 returns-2 : tie.Need-returns-2
-returns-2 c = ?
+returns-2 c = pair-first (c .before .before .before .before .before .before .before .before .before .before .before .before .before .before .before .before .before .before .before .before .pre .0) (c .before .before .before .before .before .before .before .before .before .before .before .before .before .before .before .before .before .before .before .before .pre .1) (c .before .before .before .before .before .before .before .before .before .before .before .before .before .before .before .before .before .before .before .before .pre .2) (c .before .before .before .before .before .before .before .before .before .before .before .before .before .before .before .before .before .before .before .before .pre .3) (rw (c .before .used .given .1) at (c .before .before .before .before .before .before .before .before .before .before .before .join .ensures))
 
 pub pair-spec : {M : Type 1} → statement M
 pair-spec =

@@ -1,3 +1,10 @@
+use borrow.Author.Needs.{needs}
+use mathlib.Core.Path.{_≡_, refl, _∙_}
+use mathlib.Core.List.{map}
+use native.Mathlib.Omega.{arith}
+use lib.ListN.{length}
+use Rattle.tables.specs.Table.{den}
+use Rattle.build.proofs.Taking.{Pairing, pairing-start, x-here, less-in, more-in, pairing-next, pairing-short, pairing-end}
 use Rattle.build.proofs.least.take_input.Statement.{statement}
 use Rattle.build.proofs.least.take_input.Tie as tie
 use Rattle.build.proofs.least.take_input.Reads as reads
@@ -8,123 +15,107 @@ use Rattle.build.proofs.least.pair.Reads as pair-reads
 
 abbrev Inv-loop : tie.InvT-loop
 Inv-loop nodes₀ heads₀ next₀ memo₀ row₀ xs count k i low j₀ used₀ nodes heads next memo row j used =
-    ?
+    (length heads ≡ length heads₀) × (length next ≡ length next₀) × (length memo ≡ length memo₀)
+    × Pairing k xs i nodes₀ count j nodes heads next memo row used
 
 abbrev μ-loop : tie.MeasureT-loop
-μ-loop nodes₀ heads₀ next₀ memo₀ row₀ xs count k i low j₀ used₀ nodes heads next memo row j used =
-    ?
+μ-loop nodes₀ heads₀ next₀ memo₀ row₀ xs count k i low j₀ used₀ nodes heads next memo row j used = j
 
--- src/least.rt:83:9
 lowest-requires : tie.Need-lowest-requires Inv-loop μ-loop
-lowest-requires c κs = ?
+lowest-requires c κs = search needs
 
--- src/least.rt:84:9
 highest-requires : tie.Need-highest-requires Inv-loop μ-loop
-highest-requires c κs = ?
+highest-requires c κs = search needs
 
--- src/least.rt:86:5
 loop-holds : tie.Need-loop-holds Inv-loop μ-loop
-loop-holds c = ?
+loop-holds c = (refl, refl, refl, pairing-start (c .before .before .before .before .before .before .before .pre .0) (c .before .before .before .before .before .before .before .pre .1) (c .before .before .before .before .before .before .before .pre .4) (c .highest .ensures))
 
--- src/least.rt:87:52
 mul-pair : tie.Need-mul-pair Inv-loop μ-loop
-mul-pair c = ?
+mul-pair c = search needs
 
--- src/least.rt:87:52
 shared-slice-read-pair : tie.Need-shared-slice-read-pair Inv-loop μ-loop
-shared-slice-read-pair c = ?
+shared-slice-read-pair c = search needs
 
--- src/least.rt:87:63
 sub-pair : tie.Need-sub-pair Inv-loop μ-loop
-sub-pair c = ?
+sub-pair c = search needs
 
--- src/least.rt:87:59
 mul-pair-2 : tie.Need-mul-pair-2 Inv-loop μ-loop
-mul-pair-2 c = ?
+mul-pair-2 c = search needs
 
--- src/least.rt:87:59
 element-copy-out-pair : tie.Need-element-copy-out-pair Inv-loop μ-loop
-element-copy-out-pair c = ?
+element-copy-out-pair c = search needs
 
--- src/least.rt:87:71
 mul-pair-3 : tie.Need-mul-pair-3 Inv-loop μ-loop
-mul-pair-3 c = ?
+mul-pair-3 c = search needs
 
--- src/least.rt:87:71
 element-copy-out-pair-2 : tie.Need-element-copy-out-pair-2 Inv-loop μ-loop
-element-copy-out-pair-2 c = ?
+element-copy-out-pair-2 c = search needs
 
--- src/least.rt:87:15
 pair-requires : tie.Need-pair-requires Inv-loop μ-loop
-pair-requires c κs = ?
+pair-requires c κs =
+    (
+    c .before .before .before .before .before .before .before .before .loop .inv .3 .held,
+    x-here (c .before .before .before .before .before .before .before .before .loop .inv .3) (c .before .before .before .before .before .before .before .before .before .before .lowest .ensures) (c .before .before .before .before .before .before .before .loop-test .taken) .within,
+    less-in (c .before .before .before .before .before .before .before .before .loop .inv .3) (c .before .before .before .before .before .before .before .before .before .before .lowest .ensures) (c .before .before .before .before .before .before .before .loop-test .taken),
+    more-in (c .before .before .before .before .before .before .before .before .loop .inv .3) (c .before .before .before .before .before .before .before .before .before .before .lowest .ensures) (c .before .before .before .before .before .before .before .loop-test .taken),
+    )
 
--- src/least.rt:88:25
 enum-known-r : tie.Need-enum-known-r Inv-loop μ-loop
-enum-known-r c = ?
+enum-known-r c = search needs
 
--- src/least.rt:89:17
 mul-row : tie.Need-mul-row Inv-loop μ-loop
-mul-row c = ?
+mul-row c = search needs
 
--- src/least.rt:89:17
 element-write-row : tie.Need-element-write-row Inv-loop μ-loop
-element-write-row c = ?
+element-write-row c = search needs
 
--- src/least.rt:92:26
 enum-known-to : tie.Need-enum-known-to Inv-loop μ-loop
-enum-known-to c = ?
+enum-known-to c = search needs
 
--- src/least.rt:92:33
 same-length : tie.Need-same-length Inv-loop μ-loop
-same-length c = ?
+same-length c = c .before .before .before .before .before .before .before .before .before .before .before .pair .kept .0 ∙ c .before .before .before .before .before .before .before .before .before .before .before .before .before .before .before .before .before .before .before .before .loop .inv .3 .step .grown .long
 
--- src/least.rt:92:33
 same-length-2 : tie.Need-same-length-2 Inv-loop μ-loop
-same-length-2 c = ?
+same-length-2 c = c .before .before .before .before .before .before .before .before .before .before .before .pair .kept .1 ∙ c .before .before .before .before .before .before .before .before .before .before .before .before .before .before .before .before .before .before .before .before .loop .inv .0
 
--- src/least.rt:92:33
 same-length-3 : tie.Need-same-length-3 Inv-loop μ-loop
-same-length-3 c = ?
+same-length-3 c = c .before .before .before .before .before .before .before .before .before .before .before .pair .kept .2 ∙ c .before .before .before .before .before .before .before .before .before .before .before .before .before .before .before .before .before .before .before .before .loop .inv .1
 
--- src/least.rt:92:33
 same-length-4 : tie.Need-same-length-4 Inv-loop μ-loop
-same-length-4 c = ?
+same-length-4 c = c .before .before .before .before .before .before .before .before .before .before .before .pair .kept .3 ∙ c .before .before .before .before .before .before .before .before .before .before .before .before .before .before .before .before .before .before .before .before .loop .inv .2
 
--- src/least.rt:92:33
 returns : tie.Need-returns Inv-loop μ-loop
-returns c = ?
+returns c = pairing-short (c .before .before .before .before .before .before .before .before .before .before .before .before .before .before .before .before .before .before .before .before .loop .inv .3) (c .before .before .before .before .before .before .before .before .before .before .before .before .before .before .before .before .before .before .before .before .before .before .lowest .ensures) (c .before .before .before .before .before .before .before .before .before .before .before .before .before .before .before .before .before .before .before .loop-test .taken) (rw (c .before .to .given .1) at (c .before .before .before .before .before .before .before .before .before .before .before .pair .ensures))
 
--- src/least.rt:94:9
 sub-j : tie.Need-sub-j Inv-loop μ-loop
-sub-j c = ?
+sub-j c = search needs
 
--- src/least.rt:86:5
 loop-less : tie.Need-loop-less Inv-loop μ-loop
-loop-less c = ?
+loop-less c = search needs
 
--- src/least.rt:86:5
 loop-again : tie.Need-loop-again Inv-loop μ-loop
-loop-again c = ?
+loop-again c =
+    (
+    c .before .before .before .before .before .before .before .before .before .before .before .pair .kept .1 ∙ c .before .before .before .before .before .before .before .before .before .before .before .before .before .before .before .before .before .before .before .before .loop .inv .0,
+    c .before .before .before .before .before .before .before .before .before .before .before .pair .kept .2 ∙ c .before .before .before .before .before .before .before .before .before .before .before .before .before .before .before .before .before .before .before .before .loop .inv .1,
+    c .before .before .before .before .before .before .before .before .before .before .before .pair .kept .3 ∙ c .before .before .before .before .before .before .before .before .before .before .before .before .before .before .before .before .before .before .before .before .loop .inv .2,
+    pairing-next (c .before .before .before .before .before .before .before .before .before .before .before .before .before .before .before .before .before .before .before .before .loop .inv .3) (c .before .before .before .before .before .before .before .before .before .before .before .before .before .before .before .before .before .before .before .before .before .before .lowest .ensures) (c .before .before .before .before .before .before .before .before .before .before .before .before .before .before .before .before .before .before .before .loop-test .taken) (omega arith) (rw (c .before .r .given .1) at (c .before .before .before .before .before .before .before .before .before .before .before .pair .ensures)),
+    )
 
--- src/least.rt:65:1
 same-length-5 : tie.Need-same-length-5 Inv-loop μ-loop
-same-length-5 c = ?
+same-length-5 c = c .before .loop .inv .3 .step .grown .long
 
--- src/least.rt:65:1
 same-length-6 : tie.Need-same-length-6 Inv-loop μ-loop
-same-length-6 c = ?
+same-length-6 c = search needs
 
--- src/least.rt:65:1
 same-length-7 : tie.Need-same-length-7 Inv-loop μ-loop
-same-length-7 c = ?
+same-length-7 c = search needs
 
--- src/least.rt:65:1
 same-length-8 : tie.Need-same-length-8 Inv-loop μ-loop
-same-length-8 c = ?
+same-length-8 c = search needs
 
--- src/least.rt:65:1
 returns-2 : tie.Need-returns-2 Inv-loop μ-loop
-returns-2 c = ?
+returns-2 c = pairing-end (c .before .loop .inv .3) (c .before .before .before .lowest .ensures) (c .loop-test .left)
 
 pub take-input-spec : {M : Type 1} → statement M
 take-input-spec =

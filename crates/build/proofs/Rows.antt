@@ -1,6 +1,6 @@
 -- The nodes of a gate's inputs, one after the other.
 -- Assumes nothing.
-use mathlib.Core.Path.{_≡_, refl, sym, ap, _∙_, subst}
+use mathlib.Core.Path.{_≡_, refl, sym, ap, ap₂, _∙_, subst}
 use mathlib.Core.Logic.{_⊎_, inl, inr}
 use mathlib.Core.Bool.{Bool, true, false, cond, true≢false}
 use mathlib.Core.List.{List, [], _∷_, _++_, map}
@@ -18,6 +18,7 @@ use Rattle.paper.specs.Diagrams.{Diagram, leaf, node, eval, Reduced}
 use Rattle.algebra.specs.Operations.{eventD, subs}
 use Rattle.algebra.proofs.Lists.{map-append}
 use Rattle.tables.specs.Table.{den}
+use Rattle.tables.proofs.Den.{den-0, den-1}
 use Rattle.store.specs.Store.{Store}
 use Rattle.store.specs.Building.{Is, Part, PartOf, Found, Stops, Builds, Tidy}
 use Rattle.store.specs.declared.Built.{Built}
@@ -36,6 +37,11 @@ is-event code h = rw (lt-ltb code gatesFrom h)
 
 is-gate : (code : ℕ) → gatesFrom ≤ code → inputOf code ≡ gate (code - gatesFrom)
 is-gate code h = rw (le-ltb code gatesFrom h)
+
+-- the triple of an event
+pub event-made : (e : ℕ) (T : List ℕ) (c : ℕ) (T′ H′ X′ : List ℕ) (r : Built) → Builds (Is (node e (den T 1) (den T 0))) T c (node e (den T 1) (den T 0)) T′ H′ X′ r
+    → Builds (Is (eventD e)) T c (eventD e) T′ H′ X′ r
+event-made e T c T′ H′ X′ r b = subst (λ d. Builds (Is d) T c d T′ H′ X′ r) (ap₂ (node e) (den-1 T) (den-0 T)) b
 
 -- an event's node is made
 pub names-event : (gs : List Diagram) (code : ℕ) (T : List ℕ) (c : ℕ) (T′ H′ X′ : List ℕ) (r : Built) → code < gatesFrom
