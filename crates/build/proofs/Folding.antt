@@ -14,7 +14,7 @@ use Rattle.algebra.specs.Operations.{joinD}
 use Rattle.tables.specs.Table.{den}
 use Rattle.store.specs.Building.{Part, PartOf, Found, Stops}
 use Rattle.store.proofs.Building.{stops-more}
-use Rattle.build.specs.Joins.{bit, Ready, Joined}
+use Rattle.joins.specs.Joins.{bit, Ready, Joined}
 use Rattle.build.specs.Rules.{joinAllD, joinStepsD}
 use Rattle.build.specs.Making.{All, Row, Within, Held, Made, Gained}
 use Rattle.build.proofs.Joining.{join-next, steps-next, steps-front, join-first, steps-first}

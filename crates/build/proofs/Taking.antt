@@ -18,7 +18,7 @@ use Rattle.store.specs.declared.Built.{Built}
 use Rattle.store.specs.declared.Built.the-variants.{Done, Short}
 use Rattle.store.proofs.Denotes.{den-grown}
 use Rattle.store.proofs.Building.{step-here, step-more, stops-more, step-seq, stops-seq}
-use Rattle.build.specs.Joins.{bit, Ready, Joined, Joins}
+use Rattle.joins.specs.Joins.{bit, Ready, Joined, Joins}
 use Rattle.build.specs.Rules.{leastD, leastStepsD}
 use Rattle.build.specs.Making.{All, Row, Within, Held, Made, Gained, Gains, Pair, Reached, Highest, Lowest, Taken}
 use Rattle.build.proofs.Making.{row-here, row-grown, row-map, map-long, made-one, made-seq, made-stops, stops-one, part-more}

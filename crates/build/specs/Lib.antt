@@ -1,5 +1,4 @@
 -- A tree in memory, its steps as diagrams, and what building them answers.
 pub mod Rules
 pub mod Memory
-pub mod Joins
 pub mod Making

@@ -14,7 +14,7 @@ use Rattle.store.specs.Memo.{Memo}
 use Rattle.store.specs.Building.{PartOf, Found, Step, Stops, Tidy}
 use Rattle.store.specs.declared.Built.{Built}
 use Rattle.store.specs.declared.Built.the-variants.{Done, Short}
-use Rattle.build.specs.Joins.{Right}
+use Rattle.joins.specs.Joins.{Right}
 use Rattle.build.specs.Rules.{inputD, eventStepsD, leastD, leastStepsD}
 use Rattle.build.specs.declared.Count.{Count}
 use Rattle.build.specs.declared.Count.the-variants.{To, Full}

@@ -1,7 +1,7 @@
 // At least k of n by its rule, from the last input to the first: the row holds the node of at-least j of the inputs taken so far, for each j that the
 // rule reaches.
 use crate::Count;
-use crate::join;
+use joins::join;
 use paper::INPUTS;
 use store::Built;
 ghost use mathlib.Core.Path.{_≡_};

@@ -3,14 +3,14 @@
 mod inputs; // the nodes of a gate's inputs
 mod least; // at least k of n
 
+use joins::join;
 use store::Built;
 ghost use mathlib.Core.Path.{_≡_};
 ghost use mathlib.Core.List.{map};
 ghost use Prim.Native.Nat.{_+_, _<_, _≤_};
 ghost use lib.ListN.{length};
-ghost use Rattle.algebra.specs.Operations.{joinD};
 ghost use Rattle.tables.specs.Table.{den};
-ghost use Rattle.build.specs.Joins.{bit, Ready, Joins};
+ghost use Rattle.joins.specs.Joins.{bit};
 ghost use Rattle.build.specs.Rules.{joinAllD, joinStepsD};
 ghost use Rattle.build.specs.Making.{Within, Held, Gains};
 
@@ -18,23 +18,6 @@ ghost use Rattle.build.specs.Making.{Within, Held, Gains};
 pub enum Count {
     To(usize),
     Full(usize),
-}
-
-// INTERIM
-pub fn join(
-    nodes: &mut [u32],
-    heads: &mut [u32],
-    next: &mut [u32],
-    memo: &mut [u32],
-    count: usize,
-    z: u32,
-    x: u32,
-    y: u32,
-) -> Built
-    requires { ⌜ Ready (now nodes) (now heads) (now next) (now memo) count z x y ⌝ }
-    ensures { λ r. ⌜ Joins (now (nodes .entry)) (now (memo .entry)) count (joinD (bit z) (den (now (nodes .entry)) x) (den (now (nodes .entry)) y)) (now (nodes .exit)) (now (heads .exit)) (now (next .exit)) (now (memo .exit)) r ⌝ }
-{
-    Built::Done(x, count)
 }
 
 // The inputs xs joined from left to right: and with z 0, or with z 1.
