@@ -7,13 +7,14 @@ use mathlib.Core.List.{List, [], _∷_, _++_, map}
 use Prim.Native.Nat.{ℕ, zero, suc, _+_, _-_, _≤_, _<_}
 use native.Mathlib.Omega.{arith}
 use native.Mathlib.Numerals.{add-one}
-use lib.ListN.{length, take, getD, set}
+use lib.ListN.{length, take, getD, set, length-set}
 use lib.Seq.{take-suc, take-all, getD-set-same, getD-set-other}
 use lib.Dec.{ltb}
 use borrow.Author.Tests.{lt-ltb, le-ltb}
 use Rattle.paper.specs.Lists.{In}
 use Rattle.paper.specs.Trees.{Input, event, gate}
 use Rattle.paper.specs.Sets.{none}
+use Rattle.paper.specs.Limits.{limits}
 use Rattle.paper.specs.Diagrams.{Diagram, leaf, node, eval, Reduced}
 use Rattle.algebra.specs.Operations.{eventD, subs}
 use Rattle.algebra.proofs.Lists.{map-append}
@@ -102,12 +103,13 @@ row-add {T} {c} ds {R} D {r} room w f = record { each = λ j l. go j l (below-or
 -- the first i inputs are in the row
 pub record Lining (G own : List ℕ) (T : List ℕ) (c : ℕ) (i : ℕ) (T₁ H₁ X₁ R : List ℕ) (c₁ : ℕ) : Type 0 where
   pub high : i ≤ length own
+  pub long : length R ≡ limits .inputs
   pub made : Made (eventStepsD (take i (map inputOf own))) T c T₁ H₁ X₁ c₁
   pub row : Row T₁ c₁ (map (inputD (map (den T) G)) (take i (map inputOf own))) R
   pub gates : Row T₁ c₁ (map (den T) G) G
 
-pub lining-start : {G own : List ℕ} {T H X R : List ℕ} {c : ℕ} → Store T H X c → Within c G → Lining G own T c 0 T H X R c
-lining-start s w = record { high = omega arith; made = made-here s all-none; row = record { each = λ j l. absurd (omega arith) }; gates = row-here w }
+pub lining-start : {G own : List ℕ} {T H X R : List ℕ} {c : ℕ} → Store T H X c → Within c G → length R ≡ limits .inputs → Lining G own T c 0 T H X R c
+lining-start s w l = record { high = omega arith; long = l; made = made-here s all-none; row = record { each = λ j l. absurd (omega arith) }; gates = row-here w }
 
 codes-long : (own : List ℕ) → length (map inputOf own) ≡ length own
 codes-long [] = refl
@@ -145,16 +147,17 @@ module _ {G own : List ℕ} {T : List ℕ} {c i : ℕ} {T₁ H₁ X₁ R : List 
     steps-longer : eventStepsD (take (i + 1) (map inputOf own)) ≡ eventStepsD (take i (map inputOf own)) ++ eventStepsD (inputOf (getD own i 0) ∷ [])
     steps-longer = ap eventStepsD longer ∙ events-append (take i (map inputOf own)) (inputOf (getD own i 0) ∷ [])
 
-    pub lining-next : {T₂ H₂ X₂ : List ℕ} {c₂ r : ℕ} → i < length R → Named (inputOf (getD own i 0) ∷ []) (inputD (map (den T₁) G) (inputOf (getD own i 0))) T₁ c₁ T₂ H₂ X₂ c₂ r
+    pub lining-next : {T₂ H₂ X₂ : List ℕ} {c₂ r : ℕ} → length own ≤ limits .inputs → Named (inputOf (getD own i 0) ∷ []) (inputD (map (den T₁) G) (inputOf (getD own i 0))) T₁ c₁ T₂ H₂ X₂ c₂ r
         → Lining G own T c (i + 1) T₂ H₂ X₂ (set R i r) c₂
     lining-next {T₂} {H₂} {X₂} {c₂} {r} room b =
-        let long = inputs-long gs i (map inputOf own) (let e = codes-long own in let q = a .high in omega arith) in
+        let long : length (map (inputD gs) (take i (map inputOf own))) ≡ i = inputs-long gs i (map inputOf own) (let e = codes-long own in let q = a .high in omega arith) in
         let low = a .made .step .store .lower in
         let g = b .made .step .grown in
         let f = subst (λ hs. Found T₂ c₂ (inputD hs (inputOf (getD own i 0))) r) same-gates (b .found) in
-        let rows = row-add (map (inputD gs) (take i (map inputOf own))) (inputD gs (inputOf (getD own i 0))) (omega arith) (row-grown low g (a .row)) f in
+        let rows = row-add (map (inputD gs) (take i (map inputOf own))) (inputD gs (inputOf (getD own i 0))) (let q = a .long in omega arith) (row-grown low g (a .row)) f in
         record {
           high = omega arith;
+          long = length-set R i r ∙ a .long;
           made = subst (λ es. Made es T c T₂ H₂ X₂ c₂) (sym steps-longer) (made-seq (eventStepsD (inputOf (getD own i 0) ∷ [])) (a .made) (b .made));
           row = rw (longer, map-append (inputD gs) (take i (map inputOf own)) (inputOf (getD own i 0) ∷ [])) (subst (λ k. Row T₂ c₂ (map (inputD gs) (take i (map inputOf own)) ++ (inputD gs (inputOf (getD own i 0)) ∷ [])) (set R k r)) long rows);
           gates = row-grown low g (a .gates);
@@ -168,7 +171,7 @@ module _ {G own : List ℕ} {T : List ℕ} {c i : ℕ} {T₁ H₁ X₁ R : List 
   pub lining-end : length own ≤ i → Lined gs (map inputOf own) T c T₁ H₁ X₁ R c₁
   lining-end l =
       let e : take i (map inputOf own) ≡ map inputOf own = take-all i (map inputOf own) (let q = codes-long own in omega arith) in
-      subst (λ js. Made (eventStepsD js) T c T₁ H₁ X₁ c₁ → Row T₁ c₁ (map (inputD gs) js) R → Lined gs (map inputOf own) T c T₁ H₁ X₁ R c₁) (sym e) (λ m w. record { made = m; row = w }) (a .made) (a .row)
+      subst (λ js. Made (eventStepsD js) T c T₁ H₁ X₁ c₁ → Row T₁ c₁ (map (inputD gs) js) R → Lined gs (map inputOf own) T c T₁ H₁ X₁ R c₁) (sym e) (λ m w. record { made = m; long = a .long; row = w }) (a .made) (a .row)
 
 -- ---- events are reduced
 

@@ -7,9 +7,10 @@ use mathlib.Core.List.{List, [], _∷_, _++_}
 use Prim.Native.Nat.{ℕ, zero, suc, _+_, _-_, _≤_, _<_}
 use native.Mathlib.Omega.{arith}
 use native.Mathlib.Numerals.{add-one}
-use lib.ListN.{length, getD, set, drop, length-drop}
+use lib.ListN.{length, getD, set, drop, length-drop, length-set}
 use lib.Seq.{drop-cons, getD-set-same, getD-set-other, drop-length}
 use Rattle.paper.specs.Lists.{In}
+use Rattle.paper.specs.Limits.{limits}
 use Rattle.paper.specs.Diagrams.{Diagram, leaf}
 use Rattle.algebra.specs.Operations.{joinD}
 use Rattle.algebra.proofs.Lists.{in-append}
@@ -47,8 +48,8 @@ pair-one {T} {c} k x xs {r} h f g a b = record {
 
 -- ---- the row before the first input
 
-pub reached-none : {T : List ℕ} {c k : ℕ} (ds : List Diagram) {R : List ℕ} → getD R 0 0 ≡ 1 → ((j : ℕ) → getD R (suc j) 0 ≡ 0) → Reached T c k ds (length ds) R
-reached-none {T} {c} {k} ds {R} one zeros = record { pair = λ j _ _. subst (λ xs. Pair T c xs j (getD R j 0)) (sym (drop-length ds)) (go j) }
+pub reached-none : {T : List ℕ} {c k : ℕ} (ds : List Diagram) {R : List ℕ} → length R ≡ limits .inputs + 1 → getD R 0 0 ≡ 1 → ((j : ℕ) → getD R (suc j) 0 ≡ 0) → Reached T c k ds (length ds) R
+reached-none {T} {c} {k} ds {R} long one zeros = record { long = long; pair = λ j _ _. subst (λ xs. Pair T c xs j (getD R j 0)) (sym (drop-length ds)) (go j) }
   where
     go : (j : ℕ) → Pair T c [] j (getD R j 0)
     go zero = pair-none [] (subst (λ r. Found T c (leaf true) r) (sym one) (found-1 T c))
@@ -57,13 +58,14 @@ reached-none {T} {c} {k} ds {R} one zeros = record { pair = λ j _ _. subst (λ 
 -- ---- while input i is taken: the pairs above j are with it, those up to j without it
 
 pub record Taking (T : List ℕ) (c k : ℕ) (ds : List Diagram) (i j : ℕ) (R : List ℕ) : Type 0 where
+  pub long : length R ≡ limits .inputs + 1
   pub done : (m : ℕ) → j < m → k ≤ m + i → m ≤ k → Pair T c (drop i ds) m (getD R m 0)
   pub left : (m : ℕ) → m ≤ j → k ≤ m + (i + 1) → m ≤ k → Pair T c (drop (i + 1) ds) m (getD R m 0)
 
 module _ {T : List ℕ} {c k : ℕ} {ds : List Diagram} {i : ℕ} {R : List ℕ} where
   -- above the highest pair all are constant
   pub taking-start : {high : ℕ} → (k ≤ high) ⊎ (length ds ≤ high + i) → Reached T c k ds (i + 1) R → Taking T c k ds i high R
-  taking-start {high} top a = record { done = go top; left = λ m _ l h. a .pair m l h }
+  taking-start {high} top a = record { long = a .long; done = go top; left = λ m _ l h. a .pair m l h }
     where
       go : (k ≤ high) ⊎ (length ds ≤ high + i) → (m : ℕ) → high < m → k ≤ m + i → m ≤ k → Pair T c (drop i ds) m (getD R m 0)
       go (inl t) m b l h = absurd (omega arith)
@@ -75,7 +77,7 @@ module _ {T : List ℕ} {c k : ℕ} {ds : List Diagram} {i : ℕ} {R : List ℕ}
 
   -- below the lowest pair none is reached, or at-least 0 is left
   pub taking-end : {j low : ℕ} → j < low → (low ≤ 1) ⊎ (low + i ≤ k) → Taking T c k ds i j R → Reached T c k ds i R
-  taking-end {j} {low} under bottom a = record { pair = λ m l h. go m l h (below-or-not j m) bottom }
+  taking-end {j} {low} under bottom a = record { long = a .long; pair = λ m l h. go m l h (below-or-not j m) bottom }
     where
       none : (m : ℕ) → m ≡ 0 → Pair T c (drop (i + 1) ds) m (getD R m 0) → Pair T c (drop i ds) m (getD R m 0)
       none zero e p = pair-none (drop i ds) (p .here)
@@ -138,7 +140,7 @@ module _ {k : ℕ} (ds : List Diagram) {i j : ℕ} (due : Due k (length ds) i j)
     pub more-here : Found T c (leastD j (drop (i + 1) ds)) (getD R j 0)
     more-here = let l = due .low in let h = due .high in a .left j (omega arith) (omega arith) (omega arith) .here
 
-    module _ (low : Lower T c) {T′ : List ℕ} {c′ r : ℕ} (grown : Grown T c T′ c′) (room : j < length R) (f : Found T′ c′ whole r) (all : All T′ c′ (both ∷ (whole ∷ []))) where
+    module _ (low : Lower T c) {T′ : List ℕ} {c′ r : ℕ} (grown : Grown T c T′ c′) (room : j ≤ limits .inputs) (f : Found T′ c′ whole r) (all : All T′ c′ (both ∷ (whole ∷ []))) where
       new : Pair T′ c′ (drop i ds) j r
       new =
           let s = due .some in let l = due .low in let h = due .high in
@@ -151,6 +153,7 @@ module _ {k : ℕ} (ds : List Diagram) {i j : ℕ} (due : Due k (length ds) i j)
 
       pub taking-next : Taking T′ c′ k ds i (j - 1) (set R j r)
       taking-next = record {
+        long = length-set R j r ∙ a .long;
         done = λ m b l h. go m b l h (below-or-not j m);
         left = λ m b l h. let s = due .some in subst (Pair T′ c′ (drop (i + 1) ds) m) (sym (getD-set-other R j m r 0 (omega arith))) (pair-grown low grown (a .left m (omega arith) l h));
       }
@@ -159,4 +162,4 @@ module _ {k : ℕ} (ds : List Diagram) {i j : ℕ} (due : Due k (length ds) i j)
           go m b l h (inl u) = subst (Pair T′ c′ (drop i ds) m) (sym (getD-set-other R j m r 0 (omega arith))) (pair-grown low grown (a .done m u l h))
           go m b l h (inr u) =
               let e : j ≡ m = omega arith in
-              subst (λ m. Pair T′ c′ (drop i ds) m (getD (set R j r) m 0)) e (subst (Pair T′ c′ (drop i ds) j) (sym (getD-set-same R j r 0 room)) new)
+              subst (λ m. Pair T′ c′ (drop i ds) m (getD (set R j r) m 0)) e (subst (Pair T′ c′ (drop i ds) j) (sym (getD-set-same R j r 0 (let z = a .long in omega arith))) new)

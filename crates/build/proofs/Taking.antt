@@ -8,6 +8,7 @@ use Prim.Native.Nat.{ℕ, zero, suc, _+_, _-_, _≤_, _<_}
 use native.Mathlib.Omega.{arith}
 use lib.ListN.{length, getD, set, drop}
 use Rattle.paper.specs.Lists.{In}
+use Rattle.paper.specs.Limits.{limits}
 use Rattle.paper.specs.Diagrams.{Diagram, leaf}
 use Rattle.algebra.specs.Operations.{joinD}
 use Rattle.tables.specs.Table.{den}
@@ -134,7 +135,7 @@ module _ {k : ℕ} {xs : List ℕ} {i : ℕ} {T : List ℕ} {c j : ℕ} {T₁ H�
     fit T₂ H₂ X₂ M₂ r g =
         subst (λ p. Gains (both ds due ∷ (p ∷ [])) p T₁ c₁ T₂ H₂ X₂ M₂ r) is-whole (subst (λ b. Gains (b ∷ (P₁ ∷ [])) P₁ T₁ c₁ T₂ H₂ X₂ M₂ r) is-both g)
 
-    pub pairing-next : {T₂ H₂ X₂ M₂ : List ℕ} {c₂ r : ℕ} → j < length R
+    pub pairing-next : {T₂ H₂ X₂ M₂ : List ℕ} {c₂ r : ℕ} → k ≤ limits .inputs
         → Gained (joinD false (den T₁ (getD xs i 0)) (den T₁ (getD R (j - 1) 0)) ∷ (joinD true (joinD false (den T₁ (getD xs i 0)) (den T₁ (getD R (j - 1) 0))) (den T₁ (getD R j 0)) ∷ []))
         (joinD true (joinD false (den T₁ (getD xs i 0)) (den T₁ (getD R (j - 1) 0))) (den T₁ (getD R j 0))) T₁ c₁ T₂ H₂ X₂ M₂ c₂ r
         → Pairing k xs i T c (j - 1) T₂ H₂ X₂ M₂ (set R j r) c₂
@@ -148,7 +149,7 @@ module _ {k : ℕ} {xs : List ℕ} {i : ℕ} {T : List ℕ} {c j : ℕ} {T₁ H�
           step = step-seq (a .step) (step-more (part-more wanted) s);
           held = g .held;
           row = row-grown low (s .grown) (a .row);
-          taking = taking-next ds due (a .taking) low (s .grown) room (g .found) (g .made .all);
+          taking = taking-next ds due (a .taking) low (s .grown) (let q = a .high in omega arith) (g .found) (g .made .all);
         }
 
     pub pairing-short : {T₂ H₂ X₂ : List ℕ} {c₂ : ℕ}
@@ -163,11 +164,11 @@ pub record Stage (k : ℕ) (xs : List ℕ) (T : List ℕ) (c i : ℕ) (T₁ H₁
   pub taken : Taken k (map (den T) xs) i T c T₁ H₁ X₁ M₁ R c₁
   pub row : Row T₁ c₁ (map (den T) xs) xs
 
-pub stage-start : {k : ℕ} {xs : List ℕ} {T H X M R : List ℕ} {c : ℕ} → Held T H X M c → Within c xs → getD R 0 0 ≡ 1 → ((j : ℕ) → getD R (suc j) 0 ≡ 0)
+pub stage-start : {k : ℕ} {xs : List ℕ} {T H X M R : List ℕ} {c : ℕ} → Held T H X M c → Within c xs → length R ≡ limits .inputs + 1 → getD R 0 0 ≡ 1 → ((j : ℕ) → getD R (suc j) 0 ≡ 0)
     → Stage k xs T c (length xs) T H X M R c
-stage-start {k} {xs} {T} {H} {X} {M} {R} {c} h w one zeros = record {
+stage-start {k} {xs} {T} {H} {X} {M} {R} {c} h w long one zeros = record {
   high = omega arith;
-  taken = record { step = step-here (h .store); held = h; reached = subst (λ n. Reached T c k (map (den T) xs) n R) (map-long T xs) (reached-none (map (den T) xs) one zeros) };
+  taken = record { step = step-here (h .store); held = h; reached = subst (λ n. Reached T c k (map (den T) xs) n R) (map-long T xs) (reached-none (map (den T) xs) long one zeros) };
   row = row-here w;
 }
 

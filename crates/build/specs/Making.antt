@@ -7,6 +7,7 @@ use mathlib.Core.List.{List, map}
 use Prim.Native.Nat.{ℕ, _+_, _≤_, _<_}
 use lib.ListN.{length, getD, drop}
 use Rattle.paper.specs.Lists.{In}
+use Rattle.paper.specs.Limits.{limits}
 use Rattle.paper.specs.Trees.{Input}
 use Rattle.paper.specs.Diagrams.{Diagram, leaf}
 use Rattle.store.specs.Store.{Store}
@@ -69,6 +70,7 @@ Names is D T c T′ H′ X′ (Short c′) = Stops (PartOf (eventStepsD is)) T c
 
 pub record Lined (gs : List Diagram) (is : List Input) (T : List ℕ) (c : ℕ) (T′ H′ X′ R : List ℕ) (c′ : ℕ) : Type 0 where
   pub made : Made (eventStepsD is) T c T′ H′ X′ c′
+  pub long : length R ≡ limits .inputs
   pub row : Row T′ c′ (map (inputD gs) is) R
 
 abbrev pub Lines : (gs : List Diagram) (is : List Input) (T : List ℕ) (c : ℕ) (T′ H′ X′ R : List ℕ) → Count → Type 0
@@ -84,6 +86,7 @@ pub record Pair (T : List ℕ) (c : ℕ) (xs : List Diagram) (j r : ℕ) : Type 
 
 -- the row once all but i inputs are taken: the pairs that the rule reaches from k by i inputs
 pub record Reached (T : List ℕ) (c k : ℕ) (ds : List Diagram) (i : ℕ) (R : List ℕ) : Type 0 where
+  pub long : length R ≡ limits .inputs + 1
   pub pair : (j : ℕ) → k ≤ j + i → j ≤ k → Pair T c (drop i ds) j (getD R j 0)
 
 -- of the j for which a node is made at input i, with n inputs in all, the highest and the lowest

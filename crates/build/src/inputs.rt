@@ -6,6 +6,7 @@ ghost use mathlib.Core.Path.{_≡_};
 ghost use mathlib.Core.List.{map, [], _∷_};
 ghost use Prim.Native.Nat.{ℕ, _+_, _<_, _≤_};
 ghost use lib.ListN.{length, getD};
+ghost use Rattle.paper.specs.Limits.{limits};
 ghost use Rattle.algebra.specs.Operations.{eventD};
 ghost use Rattle.tables.specs.Table.{den};
 ghost use Rattle.store.specs.Store.{Store};
@@ -57,7 +58,8 @@ pub fn input_nodes(
 ) -> Count
     requires { ⌜ Store (now nodes) (now heads) (now next) count ⌝ }
     requires { ⌜ Within count (now gates) ⌝ }
-    requires { ⌜ length (now inputs) ≤ 64 ⌝ }
+    requires { ⌜ length (now inputs) ≤ limits .inputs ⌝ }
+    requires { ⌜ length (now row) ≡ limits .inputs ⌝ }
     requires { ⌜ ((j : ℕ) → j < length (now inputs) → getD (now inputs) j 0 < gatesFrom + length (now gates)) ⌝ }
     ensures { λ r. ⌜ Lines (map (den (now (nodes .entry))) (now (gates .entry))) (map inputOf (now (inputs .entry))) (now (nodes .entry)) count (now (nodes .exit)) (now (heads .exit)) (now (next .exit)) (now (row .exit)) r ⌝ }
 {

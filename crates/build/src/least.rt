@@ -9,6 +9,7 @@ ghost use mathlib.Core.Bool.{true, false};
 ghost use mathlib.Core.List.{map, [], _∷_};
 ghost use Prim.Native.Nat.{_+_, _<_, _≤_};
 ghost use lib.ListN.{length};
+ghost use Rattle.paper.specs.Limits.{limits};
 ghost use Rattle.algebra.specs.Operations.{joinD};
 ghost use Rattle.tables.specs.Table.{den};
 ghost use Rattle.build.specs.Rules.{leastD, leastStepsD};
@@ -76,7 +77,7 @@ fn take_input(
     requires { ⌜ Held (now nodes) (now heads) (now next) (now memo) count ⌝ }
     requires { ⌜ Within count (now xs) ⌝ }
     requires { ⌜ i < length (now xs) ⌝ }
-    requires { ⌜ k ≤ 64 ⌝ }
+    requires { ⌜ k ≤ limits .inputs ⌝ }
     requires { ⌜ Reached (now nodes) count k (map (den (now nodes)) (now xs)) (i + 1) (now row) ⌝ }
     ensures { λ r. ⌜ Takes k (map (den (now (nodes .entry))) (now (xs .entry))) i (now (nodes .entry)) count (now (nodes .exit)) (now (heads .exit)) (now (next .exit)) (now (memo .exit)) (now (row .exit)) r ⌝ }
 {
@@ -108,7 +109,7 @@ pub fn at_least(
 ) -> Built
     requires { ⌜ Held (now nodes) (now heads) (now next) (now memo) count ⌝ }
     requires { ⌜ Within count (now xs) ⌝ }
-    requires { ⌜ k ≤ 64 ⌝ }
+    requires { ⌜ k ≤ limits .inputs ⌝ }
     ensures { λ r. ⌜ Gains (leastStepsD k (map (den (now (nodes .entry))) (now (xs .entry)))) (leastD k (map (den (now (nodes .entry))) (now (xs .entry)))) (now (nodes .entry)) count (now (nodes .exit)) (now (heads .exit)) (now (next .exit)) (now (memo .exit)) r ⌝ }
 {
     let mut row = [0u32; ROW];

@@ -19,7 +19,7 @@ same-length-3 : tie.Need-same-length-3
 same-length-3 c = search needs
 
 returns : tie.Need-returns
-returns c = event-made _ _ _ _ _ _ _ (c .before .before .before .before .before .before .find-or-add .ensures)
+returns c = event-made (c .before .before .before .before .before .before .before .before .before .before .before .before .before .args .e) (c .before .before .before .before .before .before .before .before .before .before .before .before .before .args .nodes .now) (c .before .before .before .before .before .before .before .before .before .before .before .before .before .args .count) (c .before .before .before .before .before .before .find-or-add .last .0) (c .before .before .before .before .before .before .find-or-add .last .1 .0) (c .before .before .before .before .before .before .find-or-add .last .1 .1 .0) (c .before .before .before .before .before .before .find-or-add .result) (c .before .before .before .before .before .before .find-or-add .ensures)
 
 pub event-node-spec : {M : Type 1} → statement M
 event-node-spec =

@@ -19,7 +19,7 @@ same-length-3 : tie.Need-same-length-3
 same-length-3 c = search needs
 
 returns : tie.Need-returns
-returns c = names-event _ _ _ _ _ _ _ _ (c .before .before .before .before .before .before .before .before .before .before .if1 .taken) (c .before .before .before .before .before .before .event-node .ensures)
+returns c = names-event _ (c .before .before .before .before .before .before .before .before .before .before .before .before .before .before .before .args .code) (c .before .before .before .before .before .before .before .before .before .before .before .before .before .before .before .args .nodes .now) (c .before .before .before .before .before .before .before .before .before .before .before .before .before .before .before .args .count) (c .before .before .before .before .before .before .event-node .last .0) (c .before .before .before .before .before .before .event-node .last .1 .0) (c .before .before .before .before .before .before .event-node .last .1 .1 .0) (c .before .before .before .before .before .before .event-node .result) (c .before .before .before .before .before .before .before .before .before .before .if1 .taken) (c .before .before .before .before .before .before .event-node .ensures)
 
 cast-g : tie.Need-cast-g
 cast-g c = search needs
@@ -31,7 +31,7 @@ shared-slice-read-t19 : tie.Need-shared-slice-read-t19
 shared-slice-read-t19 c = search needs
 
 returns-2 : tie.Need-returns-2
-returns-2 c = names-gate (c .before .before .before .before .before .before .pre .0) (c .before .before .before .before .before .before .pre .1) (c .before .if1 .left) (c .before .before .before .before .before .before .pre .2)
+returns-2 c = names-gate (c .before .before .before .before .before .before .pre .0) (c .before .before .before .before .before .before .pre .1 .0) (c .before .if1 .left) (c .before .before .before .before .before .before .pre .1 .1)
 
 pub input-node-spec : {M : Type 1} → statement M
 input-node-spec =

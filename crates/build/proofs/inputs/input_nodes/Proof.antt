@@ -17,7 +17,7 @@ abbrev μ-loop : tie.MeasureT-loop
 μ-loop nodes₀ heads₀ next₀ gates inputs row₀ count used₀ i₀ nodes heads next row used i = length inputs - i
 
 loop-holds : tie.Need-loop-holds Inv-loop μ-loop
-loop-holds c = (refl, refl, lining-start (c .before .before .before .before .before .pre .0) (c .before .before .before .before .before .pre .1))
+loop-holds c = (refl, refl, lining-start (c .before .before .before .before .before .pre .0) (c .before .before .before .before .before .pre .1 .0) (c .before .before .before .before .before .pre .1 .1 .1 .0))
 
 mul-input-node : tie.Need-mul-input-node Inv-loop μ-loop
 mul-input-node c = search needs
@@ -26,7 +26,7 @@ shared-slice-read-input-node : tie.Need-shared-slice-read-input-node Inv-loop μ
 shared-slice-read-input-node c = search needs
 
 input-node-requires : tie.Need-input-node-requires Inv-loop μ-loop
-input-node-requires c κs = (c .before .before .before .before .before .loop .inv .2 .made .step .store, lining-within (c .before .before .before .before .before .loop .inv .2), c .before .before .before .before .before .before .before .before .before .before .before .pre .3 _ (c .before .before .before .before .loop-test .taken))
+input-node-requires c κs = (c .before .before .before .before .before .loop .inv .2 .made .step .store, (lining-within (c .before .before .before .before .before .loop .inv .2), (c .before .before .before .before .before .before .before .before .before .before .before .pre .1 .1 .1 .1) _ (c .before .before .before .before .loop-test .taken)))
 
 enum-known-node : tie.Need-enum-known-node Inv-loop μ-loop
 enum-known-node c = search needs
@@ -44,10 +44,10 @@ same-length : tie.Need-same-length Inv-loop μ-loop
 same-length c = c .before .before .before .before .before .before .before .before .before .input-node .kept .0 ∙ c .before .before .before .before .before .before .before .before .before .before .before .before .before .before .before .loop .inv .2 .made .step .grown .long
 
 same-length-2 : tie.Need-same-length-2 Inv-loop μ-loop
-same-length-2 c = c .before .before .before .before .before .before .before .before .before .input-node .kept .1 ∙ c .before .before .before .before .before .before .before .before .before .before .before .before .before .before .before .loop .inv .0
+same-length-2 c = c .before .before .before .before .before .before .before .before .before .input-node .kept .1 .0 ∙ c .before .before .before .before .before .before .before .before .before .before .before .before .before .before .before .loop .inv .0
 
 same-length-3 : tie.Need-same-length-3 Inv-loop μ-loop
-same-length-3 c = c .before .before .before .before .before .before .before .before .before .input-node .kept .2 ∙ c .before .before .before .before .before .before .before .before .before .before .before .before .before .before .before .loop .inv .1
+same-length-3 c = c .before .before .before .before .before .before .before .before .before .input-node .kept .1 .1 .0 ∙ c .before .before .before .before .before .before .before .before .before .before .before .before .before .before .before .loop .inv .1
 
 returns : tie.Need-returns Inv-loop μ-loop
 returns c = lining-short (c .before .before .before .before .before .before .before .before .before .before .before .before .before .before .before .loop .inv .2) (c .before .before .before .before .before .before .before .before .before .before .before .before .before .before .loop-test .taken) (rw (c .before .to .given .1) at (c .before .before .before .before .before .before .before .before .before .input-node .ensures))
@@ -61,9 +61,9 @@ loop-less c = search needs
 loop-again : tie.Need-loop-again Inv-loop μ-loop
 loop-again c =
     (
-    c .before .before .before .before .before .before .before .before .before .input-node .kept .1 ∙ c .before .before .before .before .before .before .before .before .before .before .before .before .before .before .before .loop .inv .0,
-    c .before .before .before .before .before .before .before .before .before .input-node .kept .2 ∙ c .before .before .before .before .before .before .before .before .before .before .before .before .before .before .before .loop .inv .1,
-    lining-next (c .before .before .before .before .before .before .before .before .before .before .before .before .before .before .before .loop .inv .2) (c .before .before .before .before .before .before .before .before .before .before .before .before .before .before .loop-test .taken) (omega arith) (rw (c .before .node .given .1) at (c .before .before .before .before .before .before .before .before .before .input-node .ensures)),
+    c .before .before .before .before .before .before .before .before .before .input-node .kept .1 .0 ∙ c .before .before .before .before .before .before .before .before .before .before .before .before .before .before .before .loop .inv .0,
+    c .before .before .before .before .before .before .before .before .before .input-node .kept .1 .1 .0 ∙ c .before .before .before .before .before .before .before .before .before .before .before .before .before .before .before .loop .inv .1,
+    lining-next (c .before .before .before .before .before .before .before .before .before .before .before .before .before .before .before .loop .inv .2) (c .before .before .before .before .before .before .before .before .before .before .before .before .before .before .loop-test .taken) (c .before .before .before .before .before .before .before .before .before .before .before .before .before .before .before .before .before .before .before .before .before .pre .1 .1 .0) (rw (c .before .node .given .1) at (c .before .before .before .before .before .before .before .before .before .input-node .ensures)),
     )
 
 same-length-4 : tie.Need-same-length-4 Inv-loop μ-loop
