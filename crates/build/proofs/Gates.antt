@@ -17,7 +17,7 @@ use Rattle.paper.specs.Diagrams.{Diagram, leaf}
 use Rattle.algebra.specs.Operations.{joinD, eventD, gateDiagrams, stepDiagrams}
 use Rattle.algebra.proofs.Lists.{in-left}
 use Rattle.build.specs.Rules.{inputD, eventStepsD, valueD, stepsD}
-use Rattle.build.specs.Memory.{inputOf, gateOf, gatesOf, startOf}
+use Rattle.build.specs.Memory.{inputOf, gateOf, gatesOf, startOf, gateAt}
 
 -- ---- in memory
 
@@ -25,10 +25,6 @@ pub gates-length : (kinds leasts : List ℕ) (g : ℕ) (sizes inputs : List ℕ)
 unfolding gatesOf
 gates-length kinds leasts g [] inputs = refl
 gates-length kinds leasts g (n ∷ sizes) inputs = ap suc (gates-length kinds leasts (g + 1) sizes (drop n inputs))
-
--- gate g
-abbrev pub gateAt : List ℕ → List ℕ → List ℕ → List ℕ → ℕ → Gate
-gateAt kinds leasts sizes inputs g = gateOf (getD kinds g 0) (getD leasts g 0) (map inputOf (take (getD sizes g 0) (drop (startOf sizes g) inputs)))
 
 gates-at : (kinds leasts : List ℕ) (b : ℕ) (sizes inputs : List ℕ) (g : ℕ) (d : Gate) → g < length sizes
     → getD (gatesOf kinds leasts b sizes inputs) g d ≡ gateOf (getD kinds (b + g) 0) (getD leasts (b + g) 0) (map inputOf (take (getD sizes g 0) (drop (startOf sizes g) inputs)))

@@ -6,7 +6,8 @@ use mathlib.Core.Bool.{Bool, true, false}
 use mathlib.Core.List.{List, [], _∷_, _++_, map}
 use Prim.Native.Nat.{ℕ, zero, suc, _+_, _-_, _≤_, _<_}
 use native.Mathlib.Omega.{arith}
-use lib.ListN.{length, getD, set, drop}
+use lib.ListN.{length, getD, set, drop, replicate, length-set, length-replicate}
+use lib.Seq.{getD-set-same, getD-set-other}
 use Rattle.paper.specs.Lists.{In}
 use Rattle.paper.specs.Limits.{limits}
 use Rattle.paper.specs.Diagrams.{Diagram, leaf}
@@ -18,6 +19,7 @@ use Rattle.store.specs.Building.{Part, PartOf, Found, Step, Stops}
 use Rattle.store.specs.declared.Built.{Built}
 use Rattle.store.specs.declared.Built.the-variants.{Done, Short}
 use Rattle.store.proofs.Denotes.{den-grown}
+use Rattle.store.proofs.Zeros.{zero-at}
 use Rattle.store.proofs.Building.{step-here, step-more, stops-more, step-seq, stops-seq}
 use Rattle.joins.specs.Joins.{bit, Ready, Joined, Joins}
 use Rattle.build.specs.Rules.{leastD, leastStepsD}
@@ -171,6 +173,11 @@ stage-start {k} {xs} {T} {H} {X} {M} {R} {c} h w long one zeros = record {
   taken = record { step = step-here (h .store); held = h; reached = subst (λ n. Reached T c k (map (den T) xs) n R) (map-long T xs) (reached-none (map (den T) xs) long one zeros) };
   row = row-here w;
 }
+
+-- a row of zeros with at-least 0 in front
+pub stage-first : {k : ℕ} {xs : List ℕ} {T H X M : List ℕ} {c : ℕ} → Held T H X M c → Within c xs → Stage k xs T c (length xs) T H X M (set (replicate 65 0) 0 1) c
+stage-first h w = stage-start h w (length-set (replicate 65 0) 0 1 ∙ length-replicate 65 0) (getD-set-same (replicate 65 0) 0 1 0 (let e = length-replicate {A = ℕ} 65 0 in omega arith))
+    (λ j. getD-set-other (replicate 65 0) 0 (suc j) 1 0 (omega arith) ∙ zero-at 65 (suc j))
 
 module _ {k : ℕ} {xs : List ℕ} {T : List ℕ} {c i : ℕ} {T₁ H₁ X₁ M₁ R : List ℕ} {c₁ : ℕ} (a : Stage k xs T c i T₁ H₁ X₁ M₁ R c₁) where
   pub stage-within : Within c₁ xs

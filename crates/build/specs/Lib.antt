@@ -2,3 +2,4 @@
 pub mod Rules
 pub mod Memory
 pub mod Making
+pub mod Finishing

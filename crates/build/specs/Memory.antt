@@ -29,13 +29,22 @@ gatesOf kinds leasts g (n ∷ sizes) inputs =
 abbrev pub startOf : List ℕ → ℕ → ℕ
 startOf sizes g = sum (take g sizes)
 
--- what a tree that was accepted keeps, and that the gate list is long enough
-pub record Plan (kinds leasts sizes inputs list : List ℕ) : Type 0 where
+-- gate g
+abbrev pub gateAt : List ℕ → List ℕ → List ℕ → List ℕ → ℕ → Gate
+gateAt kinds leasts sizes inputs g = gateOf (getD kinds g 0) (getD leasts g 0) (map inputOf (take (getD sizes g 0) (drop (startOf sizes g) inputs)))
+
+-- what the arrays of an accepted tree keep
+pub record Plan (kinds leasts sizes inputs : List ℕ) : Type 0 where
   pub has-kinds : length sizes ≤ length kinds
   pub has-leasts : length sizes ≤ length leasts
   pub has-inputs : sum sizes ≤ length inputs
-  pub has-list : length sizes ≤ length list
   pub some : (g : ℕ) → g < length sizes → 1 ≤ getD sizes g 0
   pub few : (g : ℕ) → g < length sizes → getD sizes g 0 ≤ limits .inputs
   pub least : (g : ℕ) → g < length sizes → getD leasts g 0 ≤ getD sizes g 0
   pub earlier : (g j : ℕ) → g < length sizes → j < getD sizes g 0 → getD inputs (startOf sizes g + j) 0 < gatesFrom + g
+
+-- the inputs of one gate, after so many gates
+pub record Own (gates own : List ℕ) : Type 0 where
+  pub some : 1 ≤ length own
+  pub few : length own ≤ limits .inputs
+  pub earlier : (j : ℕ) → j < length own → getD own j 0 < gatesFrom + length gates

@@ -4,15 +4,15 @@ use paper::INPUTS;
 use store::Built;
 ghost use mathlib.Core.Path.{_≡_};
 ghost use mathlib.Core.List.{map, [], _∷_};
-ghost use Prim.Native.Nat.{ℕ, _+_, _<_, _≤_};
-ghost use lib.ListN.{length, getD};
+ghost use Prim.Native.Nat.{_+_, _<_};
+ghost use lib.ListN.{length};
 ghost use Rattle.paper.specs.Limits.{limits};
 ghost use Rattle.algebra.specs.Operations.{eventD};
 ghost use Rattle.tables.specs.Table.{den};
 ghost use Rattle.store.specs.Store.{Store};
 ghost use Rattle.store.specs.Building.{Is, Builds};
 ghost use Rattle.build.specs.Rules.{inputD};
-ghost use Rattle.build.specs.Memory.{gatesFrom, inputOf};
+ghost use Rattle.build.specs.Memory.{gatesFrom, inputOf, Own};
 ghost use Rattle.build.specs.Making.{Within, Names, Lines};
 
 // The input that stands for gate 0.
@@ -58,9 +58,8 @@ pub fn input_nodes(
 ) -> Count
     requires { ⌜ Store (now nodes) (now heads) (now next) count ⌝ }
     requires { ⌜ Within count (now gates) ⌝ }
-    requires { ⌜ length (now inputs) ≤ limits .inputs ⌝ }
+    requires { ⌜ Own (now gates) (now inputs) ⌝ }
     requires { ⌜ length (now row) ≡ limits .inputs ⌝ }
-    requires { ⌜ ((j : ℕ) → j < length (now inputs) → getD (now inputs) j 0 < gatesFrom + length (now gates)) ⌝ }
     ensures { λ r. ⌜ Lines (map (den (now (nodes .entry))) (now (gates .entry))) (map inputOf (now (inputs .entry))) (now (nodes .entry)) count (now (nodes .exit)) (now (heads .exit)) (now (next .exit)) (now (row .exit)) r ⌝ }
 {
     let mut used = count;

@@ -17,7 +17,7 @@ abbrev μ-loop : tie.MeasureT-loop
 μ-loop nodes₀ heads₀ next₀ gates inputs row₀ count used₀ i₀ nodes heads next row used i = length inputs - i
 
 loop-holds : tie.Need-loop-holds Inv-loop μ-loop
-loop-holds c = (refl, refl, lining-start (c .before .before .before .before .before .pre .0) (c .before .before .before .before .before .pre .1 .0) (c .before .before .before .before .before .pre .1 .1 .1 .0))
+loop-holds c = (refl, refl, lining-start (c .before .before .before .before .before .pre .0) (c .before .before .before .before .before .pre .1 .0) (c .before .before .before .before .before .pre .1 .1 .1))
 
 mul-input-node : tie.Need-mul-input-node Inv-loop μ-loop
 mul-input-node c = search needs
@@ -26,16 +26,16 @@ shared-slice-read-input-node : tie.Need-shared-slice-read-input-node Inv-loop μ
 shared-slice-read-input-node c = search needs
 
 input-node-requires : tie.Need-input-node-requires Inv-loop μ-loop
-input-node-requires c κs = (c .before .before .before .before .before .loop .inv .2 .made .step .store, (lining-within (c .before .before .before .before .before .loop .inv .2), (c .before .before .before .before .before .before .before .before .before .before .before .pre .1 .1 .1 .1) _ (c .before .before .before .before .loop-test .taken)))
+input-node-requires c κs = (c .before .before .before .before .before .loop .inv .2 .made .step .store, (lining-within (c .before .before .before .before .before .loop .inv .2), (c .before .before .before .before .before .before .before .before .before .before .before .pre .1 .1 .0) .earlier _ (c .before .before .before .before .loop-test .taken)))
 
 enum-known-node : tie.Need-enum-known-node Inv-loop μ-loop
 enum-known-node c = search needs
 
 mul-row : tie.Need-mul-row Inv-loop μ-loop
-mul-row c = search needs
+mul-row c = omega (arith, c .before .before .before .before .before .before .before .before .before .before .before .before .before .before .loop-test .taken, (c .before .before .before .before .before .before .before .before .before .before .before .before .before .before .before .before .before .before .before .before .before .pre .1 .1 .0) .few)
 
 element-write-row : tie.Need-element-write-row Inv-loop μ-loop
-element-write-row c = search needs
+element-write-row c = omega (arith, c .before .before .before .before .before .before .before .before .before .before .before .before .before .before .loop-test .taken, (c .before .before .before .before .before .before .before .before .before .before .before .before .before .before .before .before .before .before .before .before .before .pre .1 .1 .0) .few)
 
 enum-known-to : tie.Need-enum-known-to Inv-loop μ-loop
 enum-known-to c = search needs
@@ -63,7 +63,7 @@ loop-again c =
     (
     c .before .before .before .before .before .before .before .before .before .input-node .kept .1 .0 ∙ c .before .before .before .before .before .before .before .before .before .before .before .before .before .before .before .loop .inv .0,
     c .before .before .before .before .before .before .before .before .before .input-node .kept .1 .1 .0 ∙ c .before .before .before .before .before .before .before .before .before .before .before .before .before .before .before .loop .inv .1,
-    lining-next (c .before .before .before .before .before .before .before .before .before .before .before .before .before .before .before .loop .inv .2) (c .before .before .before .before .before .before .before .before .before .before .before .before .before .before .loop-test .taken) (c .before .before .before .before .before .before .before .before .before .before .before .before .before .before .before .before .before .before .before .before .before .pre .1 .1 .0) (rw (c .before .node .given .1) at (c .before .before .before .before .before .before .before .before .before .input-node .ensures)),
+    lining-next (c .before .before .before .before .before .before .before .before .before .before .before .before .before .before .before .loop .inv .2) (c .before .before .before .before .before .before .before .before .before .before .before .before .before .before .loop-test .taken) ((c .before .before .before .before .before .before .before .before .before .before .before .before .before .before .before .before .before .before .before .before .before .pre .1 .1 .0) .few) (rw (c .before .node .given .1) at (c .before .before .before .before .before .before .before .before .before .input-node .ensures)),
     )
 
 same-length-4 : tie.Need-same-length-4 Inv-loop μ-loop
