@@ -111,7 +111,7 @@ pub record Lining (G own : List ℕ) (T : List ℕ) (c : ℕ) (i : ℕ) (T₁ H�
 pub lining-start : {G own : List ℕ} {T H X R : List ℕ} {c : ℕ} → Store T H X c → Within c G → length R ≡ limits .inputs → Lining G own T c 0 T H X R c
 lining-start s w l = record { high = omega arith; long = l; made = made-here s all-none; row = record { each = λ j l. absurd (omega arith) }; gates = row-here w }
 
-codes-long : (own : List ℕ) → length (map inputOf own) ≡ length own
+pub codes-long : (own : List ℕ) → length (map inputOf own) ≡ length own
 codes-long [] = refl
 codes-long (x ∷ own) = ap suc (codes-long own)
 

@@ -176,8 +176,10 @@ stage-start {k} {xs} {T} {H} {X} {M} {R} {c} h w long one zeros = record {
 
 -- a row of zeros with at-least 0 in front
 pub stage-first : {k : ℕ} {xs : List ℕ} {T H X M : List ℕ} {c : ℕ} → Held T H X M c → Within c xs → Stage k xs T c (length xs) T H X M (set (replicate 65 0) 0 1) c
-stage-first h w = stage-start h w (length-set (replicate 65 0) 0 1 ∙ length-replicate 65 0) (getD-set-same (replicate 65 0) 0 1 0 (let e = length-replicate {A = ℕ} 65 0 in omega arith))
-    (λ j. getD-set-other (replicate 65 0) 0 (suc j) 1 0 (omega arith) ∙ zero-at 65 (suc j))
+stage-first h w =
+    let R : List ℕ = replicate 65 0 in
+    let e : length R ≡ 65 = length-replicate {A = ℕ} 65 0 in
+    stage-start h w (length-set R 0 1 ∙ e) (getD-set-same R 0 1 0 (omega arith)) (λ j. getD-set-other R 0 (suc j) 1 0 (omega arith) ∙ zero-at 65 (suc j))
 
 module _ {k : ℕ} {xs : List ℕ} {T : List ℕ} {c i : ℕ} {T₁ H₁ X₁ M₁ R : List ℕ} {c₁ : ℕ} (a : Stage k xs T c i T₁ H₁ X₁ M₁ R c₁) where
   pub stage-within : Within c₁ xs

@@ -30,7 +30,7 @@ pub record Whole (t : List Gate) (G T H X : List ℕ) (root c : ℕ) : Type 0 wh
   pub count : c ≡ nodeCount (stepDiagrams t)
   pub gates : (i : ℕ) → Found T c (getD (gateDiagrams t) i (leaf false)) (getD G i 0)
   pub zeros : (i : ℕ) → length t ≤ i → getD G i 0 ≡ 0
-  pub root : root ≡ getD G (length t - 1) 0
+  pub last : root ≡ getD G (length t - 1) 0
 
 -- gate g is the first whose steps, with those of the gates before, have more nodes than the table has room for
 pub record TooMany (t : List Gate) (room g : ℕ) : Type 0 where
