@@ -99,8 +99,11 @@ module _ {T H X M : List ℕ} {c : ℕ} (G own : List ℕ) (h : Held T H X M c) 
   long : length (map (inputD gs) is) ≡ length own
   long = inputs-long is ∙ codes-long own
 
+  pub row-fits : length own ≤ length R
+  row-fits = let e = a .long in let f = w .few in omega arith
+
   pub row-long : length (take (length own) R) ≡ length own
-  row-long = length-take-le (length own) R (let e = a .long in let f = w .few in omega arith)
+  row-long = length-take-le (length own) R row-fits
 
   row : Row T₁ c₁ (map (inputD gs) is) (take (length own) R)
   row = record { each = λ j l. subst (Found T₁ c₁ (getD (map (inputD gs) is) j (leaf false))) (sym (getD-take (length own) R j 0 (let e = long in omega arith))) (a .row .each j l) }

@@ -8,16 +8,18 @@ use Prim.Native.Nat.{ℕ, zero, suc, _+_, _-_, _≤_, _<_}
 use native.Mathlib.Omega.{arith}
 use native.Mathlib.Numerals.{add-one}
 use lib.Dec.{ltb, eqb}
-use lib.ListN.{length, take, drop, getD}
-use lib.Seq.{take-suc, take-all, drop-drop}
+use lib.ListN.{length, take, drop, getD, length-drop}
+use lib.Seq.{take-suc, drop-drop, length-take-le, getD-take, getD-drop}
 use Rattle.paper.specs.Lists.{In, sum}
+use Rattle.paper.specs.Limits.{limits}
 use Rattle.paper.specs.Trees.{Input, event, gate, Gate, andG, orG, leastG}
 use Rattle.paper.specs.Steps.{valuesFrom, stepsFrom, eventSteps}
 use Rattle.paper.specs.Diagrams.{Diagram, leaf}
 use Rattle.algebra.specs.Operations.{joinD, eventD, gateDiagrams, stepDiagrams}
-use Rattle.algebra.proofs.Lists.{in-left}
+use Rattle.store.specs.declared.Built.{Built}
 use Rattle.build.specs.Rules.{inputD, eventStepsD, valueD, stepsD}
-use Rattle.build.specs.Memory.{inputOf, gateOf, gatesOf, startOf, gateAt}
+use Rattle.build.specs.Memory.{inputOf, gateOf, gatesOf, startOf, gateAt, Plan, Own}
+use Rattle.build.specs.Making.{Gains}
 
 -- ---- in memory
 
@@ -63,6 +65,46 @@ sum-front [] zero = omega arith
 sum-front [] (suc g) = omega arith
 sum-front (n ∷ sizes) zero = omega arith
 sum-front (n ∷ sizes) (suc g) = let r = sum-front sizes g in omega arith
+
+-- the inputs of gate g, as they are lent
+module _ {kinds leasts sizes inputs : List ℕ} (p : Plan kinds leasts sizes inputs) {g at : ℕ} (h : g < length sizes) (e : at ≡ startOf sizes g) where
+  pub gate-fits : at + getD sizes g 0 ≤ length inputs
+  gate-fits = let a = sum-next sizes g h in let b = sum-front sizes (g + 1) in let c = p .has-inputs in omega arith
+
+  short : at + getD sizes g 0 - at ≡ getD sizes g 0
+  short = omega arith
+
+  abbrev own : List ℕ
+  own = take (at + getD sizes g 0 - at) (drop at inputs)
+
+  own-long : length own ≡ getD sizes g 0
+  own-long = ap (λ n. length (take n (drop at inputs))) short
+      ∙ length-take-le (getD sizes g 0) (drop at inputs) (let l = length-drop at inputs in let f = gate-fits in omega arith)
+
+  pub gate-own : (gates : List ℕ) → length sizes ≤ length gates → Own gates (take (at + getD sizes g 0 - at) (drop at inputs))
+  gate-own gates l = let long = own-long in record {
+    some = let a = p .some g h in omega arith;
+    few = let a = p .few g h in omega arith;
+    earlier = λ j m.
+        let b : j < getD sizes g 0 = omega arith in
+        let c = p .earlier g j h b in
+        let q : getD own j 0 ≡ getD inputs (startOf sizes g + j) 0 =
+            getD-take (at + getD sizes g 0 - at) (drop at inputs) j 0 (let s = short in omega arith) ∙ getD-drop at inputs j 0 ∙ ap (λ i. getD inputs (i + j) 0) e in
+        omega arith;
+  }
+
+  pub gate-least : getD leasts g 0 ≤ limits .inputs
+  gate-least = let a = p .least g h in let b = p .few g h in omega arith
+
+  own-is : own ≡ take (getD sizes g 0) (drop (startOf sizes g) inputs)
+  own-is = ap₂ (λ n i. take n (drop i inputs)) short e
+
+  pub gate-is : (gs : List Diagram) (T : List ℕ) (c : ℕ) (T′ H′ X′ M′ : List ℕ) (r : Built)
+      → Gains (stepsD gs (gateOf (getD kinds g 0) (getD leasts g 0) (map inputOf (take (at + getD sizes g 0 - at) (drop at inputs)))))
+      (valueD gs (gateOf (getD kinds g 0) (getD leasts g 0) (map inputOf (take (at + getD sizes g 0 - at) (drop at inputs))))) T c T′ H′ X′ M′ r
+      → Gains (stepsD gs (gateAt kinds leasts sizes inputs g)) (valueD gs (gateAt kinds leasts sizes inputs g)) T c T′ H′ X′ M′ r
+  gate-is gs T c T′ H′ X′ M′ r b =
+      subst (λ is. Gains (stepsD gs (gateOf (getD kinds g 0) (getD leasts g 0) (map inputOf is))) (valueD gs (gateOf (getD kinds g 0) (getD leasts g 0) (map inputOf is))) T c T′ H′ X′ M′ r) own-is b
 
 -- ---- one gate more
 
