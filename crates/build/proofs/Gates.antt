@@ -89,7 +89,7 @@ module _ {kinds leasts sizes inputs : List ℕ} (p : Plan kinds leasts sizes inp
         let b : j < getD sizes g 0 = omega arith in
         let c = p .earlier g j h b in
         let q : getD own j 0 ≡ getD inputs (startOf sizes g + j) 0 =
-            getD-take (at + getD sizes g 0 - at) (drop at inputs) j 0 (let s = short in omega arith) ∙ getD-drop at inputs j 0 ∙ ap (λ i. getD inputs (i + j) 0) e in
+        getD-take (at + getD sizes g 0 - at) (drop at inputs) j 0 (let s = short in omega arith) ∙ getD-drop at inputs j 0 ∙ ap (λ i. getD inputs (i + j) 0) e in
         omega arith;
   }
 

@@ -8,3 +8,4 @@ pub mod Folding
 pub mod Rows
 pub mod Taking
 pub mod ByKind
+pub mod Sofar

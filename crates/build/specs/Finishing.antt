@@ -11,7 +11,7 @@ use Rattle.paper.specs.Diagrams.{Diagram, leaf}
 use Rattle.algebra.specs.Operations.{nodeCount, gateDiagrams, stepDiagrams}
 use Rattle.store.specs.Store.{Store}
 use Rattle.store.specs.Building.{PartOf, Found, Only, Tidy}
-use Rattle.build.specs.Making.{All}
+use Rattle.build.specs.Making.{All, Held}
 use Rattle.build.specs.declared.Finish.{Finish}
 use Rattle.build.specs.declared.Finish.the-variants.{Complete, Over}
 
@@ -20,6 +20,14 @@ pub record Areas (T H X : List ℕ) : Type 0 where
   pub small : length T ≤ mostNumbers
   pub linked : length T ≤ 3 * length X
   pub chains : 1 ≤ length H
+
+-- the first g gates of t are built
+pub record Sofar (t : List Gate) (g : ℕ) (G T H X M : List ℕ) (c : ℕ) : Type 0 where
+  pub held : Held T H X M c
+  pub only : Only (PartOf (stepDiagrams (take g t))) T c
+  pub all : All T c (stepDiagrams (take g t))
+  pub list : (i : ℕ) → Found T c (getD (gateDiagrams (take g t)) i (leaf false)) (getD G i 0)
+  pub zeros : (i : ℕ) → g ≤ i → getD G i 0 ≡ 0
 
 -- all gates of t are built: the table holds the nodes of all steps and no other, then zeros; the list each gate's node, then zeros
 pub record Whole (t : List Gate) (G T H X : List ℕ) (root c : ℕ) : Type 0 where

@@ -19,7 +19,7 @@ ghost use Rattle.joins.specs.Joins.{bit};
 ghost use Rattle.build.specs.Rules.{joinAllD, joinStepsD, valueD, stepsD, kindD, kindStepsD};
 ghost use Rattle.build.specs.Memory.{inputOf, gateOf, gatesOf, startOf, gateAt, Plan, Own};
 ghost use Rattle.build.specs.Making.{Within, Held, Gains};
-ghost use Rattle.build.specs.Finishing.{Areas, Finishes};
+ghost use Rattle.build.specs.Finishing.{Areas, Sofar, Finishes};
 
 // The count of nodes after some steps; or the table is full.
 pub enum Count {
@@ -158,5 +158,88 @@ fn next_gate(
         count,
         kinds[g],
         leasts[g],
+    )
+}
+
+// The nodes of all gates into the list, one gate after the other.
+fn build_gates(
+    nodes: &mut [u32],
+    heads: &mut [u32],
+    next: &mut [u32],
+    memo: &mut [u32],
+    gates: &mut [u32],
+    kinds: &[u8],
+    leasts: &[u8],
+    sizes: &[u8],
+    inputs: &[u16],
+) -> Finish
+    requires { ⌜ Plan (now kinds) (now leasts) (now sizes) (now inputs) ⌝ }
+    requires { ⌜ length (now sizes) ≤ length (now gates) ⌝ }
+    requires { ⌜ Sofar (gatesOf (now kinds) (now leasts) 0 (now sizes) (now inputs)) 0 (now gates) (now nodes) (now heads) (now next) (now memo) 0 ⌝ }
+    ensures { λ r. ⌜ Finishes (gatesOf (now (kinds .entry)) (now (leasts .entry)) 0 (now (sizes .entry)) (now (inputs .entry))) (length (now (nodes .entry)) / 3) (now (gates .exit)) (now (nodes .exit)) (now (heads .exit)) (now (next .exit)) r ⌝ }
+{
+    let mut g = 0;
+    let mut at = 0;
+    let mut count = 0;
+    let mut root = 0;
+    while g < sizes.len() {
+        match next_gate(
+            nodes,
+            heads,
+            next,
+            memo,
+            gates,
+            kinds,
+            leasts,
+            sizes,
+            inputs,
+            count,
+            g,
+            at,
+        ) {
+            Built::Done(node, to) => {
+                gates[g] = node;
+                root = node;
+                count = to;
+            }
+            Built::Short(_) => return Finish::Over(g),
+        }
+        at += sizes[g] as usize;
+        g += 1;
+    }
+    Finish::Complete(root, count)
+}
+
+// Builds the diagrams of all gates of a tree. What the memory holds at entry does not matter.
+pub fn build(
+    nodes: &mut [u32],
+    heads: &mut [u32],
+    next: &mut [u32],
+    memo: &mut [u32],
+    gates: &mut [u32],
+    kinds: &[u8],
+    leasts: &[u8],
+    sizes: &[u8],
+    inputs: &[u16],
+) -> Finish
+    requires { ⌜ Areas (now nodes) (now heads) (now next) ⌝ }
+    requires { ⌜ Plan (now kinds) (now leasts) (now sizes) (now inputs) ⌝ }
+    requires { ⌜ length (now sizes) ≤ length (now gates) ⌝ }
+    ensures { λ r. ⌜ Finishes (gatesOf (now (kinds .entry)) (now (leasts .entry)) 0 (now (sizes .entry)) (now (inputs .entry))) (length (now (nodes .entry)) / 3) (now (gates .exit)) (now (nodes .exit)) (now (heads .exit)) (now (next .exit)) r ⌝ }
+{
+    clear(nodes);
+    clear(heads);
+    clear(memo);
+    clear(gates);
+    build_gates(
+        nodes,
+        heads,
+        next,
+        memo,
+        gates,
+        kinds,
+        leasts,
+        sizes,
+        inputs,
     )
 }
