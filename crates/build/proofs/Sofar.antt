@@ -7,7 +7,7 @@ use mathlib.Core.List.{List, [], _∷_, _++_, map}
 use Prim.Native.Nat.{ℕ, zero, suc, _+_, _-_, _*_, _/_, _≤_, _<_}
 use native.Mathlib.Omega.{arith}
 use native.Mathlib.Decide.{ℕ-discrete}
-use lib.ListN.{length, take, getD, set, replicate, length-replicate}
+use lib.ListN.{length, take, getD, set, replicate, length-set}
 use lib.Seq.{take-all, length-take-le, getD-set-same, getD-set-other}
 use Rattle.paper.specs.Lists.{In}
 use Rattle.paper.specs.Limits.{mostNumbers}
@@ -24,11 +24,12 @@ use Rattle.store.proofs.Building.{step-more, only-none, only-step, only-more, l
 use Rattle.store.proofs.Counting.{nodes-done, nodes-full}
 use Rattle.store.proofs.Zeros.{zero-at, store-cleared, memo-cleared}
 use Rattle.build.specs.Rules.{valueD, stepsD}
+use Rattle.build.specs.Memory.{gatesOf, startOf, gateAt}
 use Rattle.build.specs.Making.{All, Within, Held, Gained}
 use Rattle.build.specs.Finishing.{Sofar, Whole, TooMany}
 use Rattle.build.proofs.Making.{found-0, all-none, all-append, all-grown, part-more}
 use Rattle.build.proofs.ByKind.{value-same, steps-same}
-use Rattle.build.proofs.Gates.{diagrams-next, steps-next, diagrams-length}
+use Rattle.build.proofs.Gates.{gates-length, gates-next, sum-next, diagrams-next, steps-next, diagrams-length}
 
 -- ---- before the first gate
 
@@ -145,3 +146,53 @@ module _ {t : List Gate} {g : ℕ} {G T H X M : List ℕ} {c : ℕ} (a : Sofar t
       over = let f = nodes-full (s .step .store) (stepDiagrams (take (g + 1) t)) (only-next (s .step)) (lacks-more (part-more new) (s .lacks)) in
           subst (λ k. k / 3 < nodeCount (stepDiagrams (take (g + 1) t))) (s .step .grown .long ∙ e) f;
     }
+
+-- ---- the loop over the gates in memory: g gates are built, the inputs of the next start at `at`
+
+pub record Going (K L S I : List ℕ) (n l : ℕ) (G T H X M : List ℕ) (g at c root : ℕ) : Type 0 where
+  pub high : g ≤ length S
+  pub start : at ≡ startOf S g
+  pub last : root ≡ getD G (g - 1) 0
+  pub listed : length S ≤ l
+  pub list : length G ≡ l
+  pub long : length T ≡ n
+  pub sofar : Sofar (gatesOf K L 0 S I) g G T H X M c
+
+module _ {K L S I G T H X M : List ℕ} where
+  pub going-start : length S ≤ length G → Sofar (gatesOf K L 0 S I) 0 G T H X M 0 → Going K L S I (length T) (length G) G T H X M 0 0 0 0
+  going-start l a = record { high = omega arith; start = refl; last = sym (a .zeros 0 (omega arith)); listed = l; list = refl; long = refl; sofar = a }
+
+  module _ {n l g at c root : ℕ} (a : Going K L S I n l G T H X M g at c root) where
+    abbrev t : List Gate
+    t = gatesOf K L 0 S I
+
+    t-long : length t ≡ length S
+    t-long = gates-length K L 0 S I
+
+    pub going-end : length S ≤ g → Whole t G T H X root c
+    going-end d = let h = a .high in sofar-end (a .sofar) (let e = t-long in omega arith) (a .last) (let e = t-long in omega arith)
+
+    module _ (b : g < length S) where
+      next-is : take (g + 1) t ≡ take g t ++ (gateAt K L S I g ∷ [])
+      next-is = gates-next K L S I g b
+
+      inside : g < length t
+      inside = let e = t-long in omega arith
+
+      pub going-short : {T₂ H₂ X₂ : List ℕ} {c₂ : ℕ} → Stops (PartOf (stepsD (map (den T) G) (gateAt K L S I g))) T c T₂ H₂ X₂ c₂ → TooMany t (n / 3) g
+      going-short s = sofar-full (a .sofar) (gateAt K L S I g) next-is inside (a .long) s
+
+      pub going-next : {T₂ H₂ X₂ M₂ : List ℕ} {c₂ r : ℕ}
+          → Gained (stepsD (map (den T) G) (gateAt K L S I g)) (valueD (map (den T) G) (gateAt K L S I g)) T c T₂ H₂ X₂ M₂ c₂ r
+          → Going K L S I n l (set G g r) T₂ H₂ X₂ M₂ (g + 1) (at + getD S g 0) c₂ r
+      going-next {c₂ = c₂} {r = r} m =
+          let room : g < length G = let d = a .listed in let e = a .list in omega arith in
+          record {
+            high = omega arith;
+            start = ap (λ i. i + getD S g 0) (a .start) ∙ sym (sum-next S g b);
+            last = let z : g + 1 - 1 ≡ g = omega arith in sym (getD-set-same G g r 0 room) ∙ ap (λ i. getD (set G g r) i 0) (sym z);
+            listed = a .listed;
+            list = length-set G g r ∙ a .list;
+            long = m .made .step .grown .long ∙ a .long;
+            sofar = sofar-next (a .sofar) (gateAt K L S I g) next-is inside room m;
+          }

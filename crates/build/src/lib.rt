@@ -202,7 +202,7 @@ fn build_gates(
                 root = node;
                 count = to;
             }
-            Built::Short(_) => return Finish::Over(g),
+            Built::Short(full) => return Finish::Over(g),
         }
         at += sizes[g] as usize;
         g += 1;
