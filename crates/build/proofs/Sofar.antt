@@ -26,7 +26,8 @@ use Rattle.store.proofs.Zeros.{zero-at, store-cleared, memo-cleared}
 use Rattle.build.specs.Rules.{valueD, stepsD}
 use Rattle.build.specs.Memory.{gatesOf, startOf, gateAt}
 use Rattle.build.specs.Making.{All, Within, Held, Gained}
-use Rattle.build.specs.Finishing.{Sofar, Whole, TooMany}
+use Rattle.build.specs.Finishing.{Areas, Sofar, Whole, TooMany, Finishes}
+use Rattle.build.specs.declared.Finish.{Finish}
 use Rattle.build.proofs.Making.{found-0, all-none, all-append, all-grown, part-more}
 use Rattle.build.proofs.ByKind.{value-same, steps-same}
 use Rattle.build.proofs.Gates.{gates-length, gates-next, sum-next, diagrams-next, steps-next, diagrams-length}
@@ -196,3 +197,16 @@ module _ {K L S I G T H X M : List ℕ} where
             long = m .made .step .grown .long ∙ a .long;
             sofar = sofar-next (a .sofar) (gateAt K L S I g) next-is inside room m;
           }
+
+-- ---- whatever the memory held at entry
+
+pub sofar-cleared : (s : List Gate) (M₀ G₀ : List ℕ) {T₀ H₀ T H X M G : List ℕ} → Areas T₀ H₀ X
+    → T ≡ replicate (length T₀) 0 → H ≡ replicate (length H₀) 0 → M ≡ replicate (length M₀) 0 → G ≡ replicate (length G₀) 0 → Sofar s 0 G T H X M 0
+sofar-cleared s M₀ G₀ {T₀} {H₀} {T} {H} {X} {M} {G} a p q r e =
+    subst (λ T. Sofar s 0 G T H X M 0) (sym p) (subst (λ H. Sofar s 0 G (replicate (length T₀) 0) H X M 0) (sym q)
+    (subst (λ M. Sofar s 0 G (replicate (length T₀) 0) (replicate (length H₀) 0) X M 0) (sym r)
+    (subst (λ G. Sofar s 0 G (replicate (length T₀) 0) (replicate (length H₀) 0) X (replicate (length M₀) 0) 0) (sym e)
+    (sofar-none s (length T₀) (length H₀) (length M₀) (length G₀) X (a .small) (a .linked) (a .chains)))))
+
+pub same-room : (s : List Gate) (G T H X : List ℕ) (r : Finish) {n m : ℕ} → n ≡ m → Finishes s (n / 3) G T H X r → Finishes s (m / 3) G T H X r
+same-room s G T H X r e f = subst (λ n. Finishes s (n / 3) G T H X r) e f
