@@ -9,3 +9,5 @@ pub mod Rows
 pub mod Taking
 pub mod ByKind
 pub mod Sofar
+pub mod Needed
+pub mod Meaning
