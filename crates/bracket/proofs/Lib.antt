@@ -1,0 +1,3 @@
+-- The laws on the two numbers.
+pub mod Pass
+pub mod Answer
