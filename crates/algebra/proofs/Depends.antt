@@ -1,18 +1,23 @@
 -- The events at the nodes of a reduced diagram are those that its function depends on.
 -- Assumes nothing.
 use mathlib.Core.Path.{_≡_, refl, sym, ap, ap₂, _∙_, subst}
-use mathlib.Core.Logic.{_≢_, _⊎_, inl, inr, _↔_}
-use mathlib.Core.Bool.{Bool, true, false, cond, _||_, Bool-discrete, true≢false, false≢true}
+use mathlib.Core.Logic.{_≢_, _⊎_, inl, inr, _↔_, ite}
+use mathlib.Core.Bool.{Bool, true, false, cond, not, _||_, Bool-discrete, true≢false, false≢true}
 use mathlib.Core.List.{List, [], _∷_, map}
-use Prim.Native.Nat.{ℕ, suc, _≤_}
+use Prim.Native.Nat.{ℕ, zero, suc, _+_, _≤_}
 use native.Mathlib.Omega.{arith}
 use lib.Dec.{eqb}
+use lib.ListN.{length}
 use borrow.Author.Tests.{eqb-true, eqb-false}
+use Rattle.paper.specs.Lists.{keep, upTo}
 use Rattle.paper.specs.Sets.{Set, put, allSets}
-use Rattle.paper.specs.Functions.{Depends}
+use Rattle.paper.specs.Functions.{Fun, fixF, table, table-discrete, agree, Depends, depends, dependsOn}
 use Rattle.paper.specs.Diagrams.{Diagram, leaf, node, eval, Ordered, Reduced}
-use Rattle.paper.specs.Chance.{stands}
+use Rattle.paper.specs.Chance.{stands, standing}
 use Rattle.algebra.proofs.Base.{widen, put-same, put-other}
+use Rattle.algebra.proofs.Lists.{bool-iff, map-agree, keep-same}
+use Rattle.algebra.proofs.Trim.{trim, trim-all, trim-at}
+use Rattle.algebra.proofs.Fix.{eval-agree}
 use Rattle.algebra.proofs.Sets.{set-ext, failed-branch, sound-branch}
 use Rattle.algebra.proofs.Plain.{plain}
 use Rattle.algebra.proofs.Kind.{table-inj}
@@ -91,3 +96,48 @@ depends-law n d i o r = (depends-node n 0 d i o r, λ w. go (stands i d) refl w)
     go : (b : Bool) → stands i d ≡ b → Depends (eval d) i → stands i d ≡ true
     go true q w = q
     go false q (v, w) = absurd (w (stands-not d i true v q ∙ sym (stands-not d i false v q)))
+
+-- ---- how many
+
+not-agree : (n : ℕ) (F G : Fun) → (agree n F G ≡ false) ↔ (table n F ≢ table n G)
+not-agree n F G = go (table-discrete (table n F) (table n G))
+  where
+    go : (d : Dec (table n F ≡ table n G)) → (ite d true false ≡ false) ↔ (table n F ≢ table n G)
+    go (yes e) = ((λ q. absurd (true≢false q)), λ w. absurd (w e))
+    go (no w) = ((λ q. w), λ w. refl)
+
+-- the test says whether an event stands in the diagram
+depends-test : (n : ℕ) (d : Diagram) (i : ℕ) → Ordered 0 n d → Reduced d → depends n (eval d) i ≡ stands i d
+depends-test n d i o r = bool-iff (depends n (eval d) i) (stands i d) to from
+  where
+    F : Bool → Fun
+    F b = fixF i b (eval d)
+
+    local : (b : Bool) (v : Set) → eval d (put i b (trim n 0 v)) ≡ eval d (put i b v)
+    local b v = eval-agree 0 n d (put i b (trim n 0 v)) (put i b v) o (λ j l h. ap (cond (eqb j i) b) (trim-at n 0 v j l (omega arith)))
+
+    turn : (b : Bool) → not b ≡ true → b ≡ false
+    turn true q = absurd (false≢true q)
+    turn false q = refl
+
+    to : depends n (eval d) i ≡ true → stands i d ≡ true
+    to q = depends-law n d i o r .1 (differ (F true) (F false) (allSets n 0) (not-agree n (F true) (F false) .0 (turn (agree n (F true) (F false)) q)))
+
+    from : stands i d ≡ true → depends n (eval d) i ≡ true
+    from q =
+        let (v, w) = depends-law n d i o r .0 q in
+        ap not (not-agree n (F true) (F false) .1 (λ e. w (sym (local true v) ∙ map-agree (F true) (F false) (trim n 0 v) (allSets n 0) e (trim-all n 0 v) ∙ local false v)))
+
+standing-kept : (k m : ℕ) (d : Diagram) → standing k m d ≡ length (keep (λ i. stands i d) (upTo k m))
+standing-kept zero m d = refl
+standing-kept (suc k) m d = go (stands m d) (standing-kept k (suc m) d)
+  where
+    go : (b : Bool) → standing k (suc m) d ≡ length (keep (λ i. stands i d) (upTo k (suc m)))
+        → cond b 1 0 + standing k (suc m) d ≡ length (cond b (m ∷ keep (λ i. stands i d) (upTo k (suc m))) (keep (λ i. stands i d) (upTo k (suc m))))
+    go true e = omega (arith, e)
+    go false e = omega (arith, e)
+
+-- L OF A BUILT TREE: as many events stand in a reduced diagram as its function depends on
+pub standing-depends : (n : ℕ) (d : Diagram) → Ordered 0 n d → Reduced d → standing n 0 d ≡ dependsOn n (eval d)
+unfolding dependsOn
+standing-depends n d o r = standing-kept n 0 d ∙ ap length (keep-same (λ i. stands i d) (depends n (eval d)) (upTo n 0) (λ i h. sym (depends-test n d i o r)))

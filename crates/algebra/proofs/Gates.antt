@@ -201,6 +201,10 @@ module _ (n : ℕ) where
   unfolding stepDiagrams stepFuns
   steps-show t b = r-stepsFrom eventD leaf joinD eventF constF joinF Shows n shows-event shows-leaf shows-join [] [] tt t b
 
+  pub values-show : (t : List Gate) → TreeBelow n t → Pairs Shows (gateDiagrams t) (valuesFrom eventF constF joinF [] t)
+  unfolding gateDiagrams
+  values-show t b = r-valuesFrom eventD leaf joinD eventF constF joinF Shows n shows-event shows-leaf shows-join [] [] tt t b
+
   shown : (ds : List Diagram) (Fs : List Fun) → Pairs Shows ds Fs → map eval ds ≡ Fs
   shown [] [] p = refl
   shown [] (F ∷ Fs) p = absurd p

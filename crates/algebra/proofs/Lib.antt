@@ -17,3 +17,6 @@ pub mod Listing
 pub mod Bracket
 pub mod Depends
 pub mod Gates
+pub mod Rules
+pub mod Canon
+pub mod SameChance
