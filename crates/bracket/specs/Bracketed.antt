@@ -40,9 +40,10 @@ pub record Done (T : List ℕ) (root : ℕ) (A : List ℕ) (number lo hi : ℕ) 
   pub lows : L′ ≡ replicate (length L) 0
   pub highs : H′ ≡ replicate (length H) 0
 
--- a diagram of n events, its table T, stated node count c and root, chances A; the answer's number and ends; the work areas before and after
-pub record Bracketed (n : ℕ) (T : List ℕ) (c root : ℕ) (A : List ℕ) (number lo hi : ℕ) (L H L′ H′ : List ℕ) : Type 0 where
-  pub no-diagram : (Lent false n T c root → ⊥) → Refused 12 number lo hi L H L′ H′
-  pub too-short : Lent false n T c root → (Enough n T A L H → ⊥) → Refused 9 number lo hi L H L′ H′
-  pub no-chance : Lent false n T c root → Enough n T A L H → (Chances n A → ⊥) → Refused 7 number lo hi L H L′ H′
-  pub done : Lent false n T c root → Enough n T A L H → Chances n A → Done T root A number lo hi L H L′ H′
+-- a diagram of n events, its table T, stated node count c and root, chances A; the answer's number and ends; the work areas before and after:
+-- one of four answers, the first whose rule is broken, or done
+pub data Bracketed (n : ℕ) (T : List ℕ) (c root : ℕ) (A : List ℕ) (number lo hi : ℕ) (L H L′ H′ : List ℕ) : Type 0 where
+  no-diagram : (Lent false n T c root → ⊥) → Refused 12 number lo hi L H L′ H′ → Bracketed n T c root A number lo hi L H L′ H′
+  too-short : Lent false n T c root → (Enough n T A L H → ⊥) → Refused 9 number lo hi L H L′ H′ → Bracketed n T c root A number lo hi L H L′ H′
+  no-chance : Lent false n T c root → Enough n T A L H → (Chances n A → ⊥) → Refused 7 number lo hi L H L′ H′ → Bracketed n T c root A number lo hi L H L′ H′
+  done : Lent false n T c root → Enough n T A L H → Chances n A → Done T root A number lo hi L H L′ H′ → Bracketed n T c root A number lo hi L H L′ H′

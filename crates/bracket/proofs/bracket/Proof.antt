@@ -4,8 +4,8 @@ use native.Mathlib.Omega.{arith}
 use borrow.Author.Tests.{not-true, not-false}
 use Rattle.tables.specs.Lent.{Lent}
 use Rattle.tables.proofs.Flags.{says-true, says-false}
-use Rattle.bracket.specs.Bracketed.{Chances, Enough}
-use Rattle.bracket.proofs.Answer.{answer-12, answer-9, answer-7, answer-0, can-fill}
+use Rattle.bracket.specs.Bracketed.{Chances, Enough, no-diagram, too-short, no-chance, done}
+use Rattle.bracket.proofs.Answer.{refused-now, can-fill}
 use borrow.Author.Needs.{needs}
 use Rattle.bracket.proofs.bracket.Statement.{statement}
 use Rattle.bracket.proofs.bracket.Tie as tie
@@ -35,25 +35,25 @@ refused-requires c κs = search needs
 returns : tie.Need-returns
 returns c =
     let t = c .before .before .is-diagram in
-    answer-12 (c .refused .ensures) (says-false (t .result) (not-true (t .result) (c .before .if1 .taken)) (t .ensures))
+    no-diagram (says-false (t .result) (not-true (t .result) (c .before .if1 .taken)) (t .ensures)) (refused-now (c .refused .ensures))
 
 refused-requires-2 : tie.Need-refused-requires-2
 refused-requires-2 c κs = search needs
 
 returns-2 : tie.Need-returns-2
-returns-2 c = answer-9 (valid (c .before .before)) (c .refused2 .ensures) (λ e. let h = e .chances in omega arith)
+returns-2 c = too-short (valid (c .before .before)) (λ e. let h = e .chances in omega arith) (refused-now (c .refused2 .ensures))
 
 refused-requires-3 : tie.Need-refused-requires-3
 refused-requires-3 c κs = search needs
 
 returns-3 : tie.Need-returns-3
-returns-3 c = answer-9 (valid (c .before .before .before)) (c .refused3 .ensures) (λ e. let h = e .lows in omega arith)
+returns-3 c = too-short (valid (c .before .before .before)) (λ e. let h = e .lows in omega arith) (refused-now (c .refused3 .ensures))
 
 refused-requires-4 : tie.Need-refused-requires-4
 refused-requires-4 c κs = search needs
 
 returns-4 : tie.Need-returns-4
-returns-4 c = answer-9 (valid (c .before .before .before .before)) (c .refused4 .ensures) (λ e. let h = e .highs in omega arith)
+returns-4 c = too-short (valid (c .before .before .before .before)) (λ e. let h = e .highs in omega arith) (refused-now (c .refused4 .ensures))
 
 chances-ok-requires : tie.Need-chances-ok-requires
 chances-ok-requires c κs = search needs
@@ -64,7 +64,7 @@ refused-requires-5 c κs = search needs
 returns-5 : tie.Need-returns-5
 returns-5 c =
     let t = c .before .before .chances-ok in
-    answer-7 (valid (c .before .before .before .before .before .before)) (enough (c .before .before .before)) (c .refused5 .ensures) (says-false (t .result) (not-true (t .result) (c .before .if5 .taken)) (t .ensures))
+    no-chance (valid (c .before .before .before .before .before .before)) (enough (c .before .before .before)) (says-false (t .result) (not-true (t .result) (c .before .if5 .taken)) (t .ensures)) (refused-now (c .refused5 .ensures))
 
 both-ends-requires : tie.Need-both-ends-requires
 both-ends-requires c κs = can-fill (valid (c .before .before .before .before .before .before .before)) (enough (c .before .before .before .before)) (priced (c .before .before))
@@ -76,7 +76,7 @@ same-length-2 : tie.Need-same-length-2
 same-length-2 c = search needs
 
 returns-6 : tie.Need-returns-6
-returns-6 c = answer-0 (valid (c .before .before .before .before .before .before .before .before .before .before .before .before)) (enough (c .before .before .before .before .before .before .before .before .before)) (priced (c .before .before .before .before .before .before .before)) (c .before .before .before .before .both-ends .ensures)
+returns-6 c = done (valid (c .before .before .before .before .before .before .before .before .before .before .before .before)) (enough (c .before .before .before .before .before .before .before .before .before)) (priced (c .before .before .before .before .before .before .before)) (c .before .before .before .before .both-ends .ensures)
 
 pub bracket-spec : {M : Type 1} → statement M
 bracket-spec =
