@@ -107,3 +107,12 @@ module _ {n : ℕ} {T : List ℕ} {c root : ℕ} {A : List ℕ} {number lo hi : 
       go (done v e p r) w =
           let (o, d) = lent-good v unique root (v .root-in) in
           subst (λ m. Brackets billion (n - 1) (total billion (chanceIn A) n 0 (eval (den T root))) m lo hi) (standing-depends n (den T root) o d) w
+
+-- ---- the numbers of a function: two diagrams of one function of n events get the same ends
+module _ {n : ℕ} {T T′ : List ℕ} {c c′ root root′ : ℕ} {A : List ℕ} {number lo hi number′ lo′ hi′ : ℕ} {L H L₁ H₁ L′ H′ L₂ H₂ : List ℕ} where
+  pub same-ends : Lent false n T c root → Lent false n T′ c′ root′ → Chances n A → eval (den T root) ≡ eval (den T′ root′)
+      → Done T root A number lo hi L H L₁ H₁ → Done T′ root′ A number′ lo′ hi′ L′ H′ L₂ H₂ → (lo ≡ lo′) × (hi ≡ hi′)
+  same-ends v w p e r s = (
+    r .low-is ∙ same-low billion n (chanceIn A) (omega arith) (p .each) (den T root) (den T′ root′) (root-ordered v) (root-ordered w) e ∙ sym (s .low-is),
+    r .high-is ∙ same-high billion n (chanceIn A) (omega arith) (p .each) (den T root) (den T′ root′) (root-ordered v) (root-ordered w) e ∙ sym (s .high-is),
+  )

@@ -47,7 +47,8 @@ fn mixed(a: u64, x: u64, y: u64, round: u64) -> u32
     requires { ⌜ (a ≤ billion) × (x ≤ billion) × (y ≤ billion) × (round < billion) ⌝ }
     ensures { λ r. ⌜ r ≡ (a * x + (billion - a) * y + round) / billion ⌝ }
 {
-    ((a * x + (D - a) * y + round) / D) as u32
+    let rest = D - a;
+    ((a * x + rest * y + round) / D) as u32
 }
 
 // Stores the number of node `i`, whose branches `f` and `s` have theirs.

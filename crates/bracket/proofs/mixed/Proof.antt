@@ -8,11 +8,11 @@ use Rattle.bracket.proofs.mixed.Tie as tie
 use Rattle.bracket.proofs.mixed.Reads as reads
 use Rattle.bracket.proofs.mixed.Lts as lts
 
+sub-rest : tie.Need-sub-rest
+sub-rest c = search needs
+
 mul-result : tie.Need-mul-result
 mul-result c = let s = sum-le (c .args .a) (c .args .x) (c .args .y) (c .pre .0) (c .pre .1) (c .pre .2) in omega arith
-
-sub-result : tie.Need-sub-result
-sub-result c = search needs
 
 mul-result-2 : tie.Need-mul-result-2
 mul-result-2 c = let s = sum-le (c .args .a) (c .args .x) (c .args .y) (c .pre .0) (c .pre .1) (c .pre .2) in omega arith
@@ -32,4 +32,4 @@ returns c = refl
 pub mixed-spec : {M : Type 1} → statement M
 mixed-spec =
     tie.close
-    (tie.spec mul-result sub-result mul-result-2 add-result add-result-2 cast-result returns)
+    (tie.spec sub-rest mul-result mul-result-2 add-result add-result-2 cast-result returns)
