@@ -1,0 +1,227 @@
+// Runs the bracket on tables written by hand, with work areas that come dirty, and writes for each the answer's number, its two ends, and whether
+// the work areas were left zero or as they came.
+
+// Whether each number of a work area is `v`.
+fn each_is(work: &[u32], v: u32) -> bool {
+    let mut i = 0;
+    while i < work.len() {
+        if work[i] != v {
+            return false;
+        }
+        i += 1;
+    }
+    true
+}
+
+fn show(name: &[u8], nodes: &[u32], n: usize, count: usize, root: usize, chances: &[u32]) {
+    let mut lows = [7u32; 16];
+    let mut highs = [7u32; 16];
+    let r = bracket::bracket(nodes, n, count, root, chances, &mut lows, &mut highs);
+    io::write_all(1, name);
+    io::write_all(1, b": ");
+    io::print_decimal(1, r.number as u64);
+    io::write_all(1, b" ");
+    io::print_decimal(1, r.low);
+    io::write_all(1, b" ");
+    io::print_decimal(1, r.high);
+    if each_is(&lows, 0) && each_is(&highs, 0) {
+        io::write_all(1, b" zero");
+    }
+    if each_is(&lows, 7) && each_is(&highs, 7) {
+        io::write_all(1, b" kept");
+    }
+    io::write_all(1, b"\n");
+}
+
+// The worked cases of the rules.
+fn cases() {
+    let tenths = [100000000u32, 100000000, 100000000];
+    let either = [0u32, 1, 0, 1, 1, 0, 0, 3, 0, 2, 1, 0, 1, 5, 0, 0, 3, 6];
+    show(b"case 1", &either, 3, 6, 7, &tenths);
+    let absorbed = [0u32, 1, 0, 1, 1, 0, 0, 3, 0];
+    show(b"case 5", &absorbed, 2, 3, 2, &tenths);
+    let two_of_three = [0u32, 1, 0, 1, 1, 0, 2, 1, 0, 1, 1, 4, 1, 4, 0, 0, 5, 6];
+    show(b"case 6", &two_of_three, 3, 6, 7, &tenths);
+    let both = [1u32, 1, 0, 0, 2, 0];
+    show(b"case 8", &both, 2, 2, 3, &[1u32, 1]);
+    show(b"never", &either, 3, 6, 7, &[0u32, 0, 0]);
+    show(
+        b"always",
+        &either,
+        3,
+        6,
+        7,
+        &[1000000000u32, 1000000000, 1000000000],
+    );
+    show(
+        b"certain",
+        &either,
+        3,
+        6,
+        7,
+        &[0u32, 1000000000, 1000000000],
+    );
+    show(
+        b"one certain",
+        &either,
+        3,
+        6,
+        7,
+        &[333333333u32, 1000000000, 1],
+    );
+}
+
+// The node vector of document 003, figure 8, which is not monotone; leaf roots; equal nodes.
+fn diagrams() {
+    let vector = [
+        4u32,
+        0,
+        1,
+        3,
+        2,
+        1,
+        3,
+        0,
+        1,
+        2,
+        3,
+        1,
+        2,
+        4,
+        3,
+        1,
+        4,
+        6,
+        1,
+        6,
+        5,
+        0,
+        7,
+        8,
+    ];
+    show(
+        b"figure 8, halves",
+        &vector,
+        5,
+        8,
+        9,
+        &[500000000u32, 500000000, 500000000, 500000000, 500000000],
+    );
+    show(
+        b"figure 8, thirds",
+        &vector,
+        5,
+        8,
+        9,
+        &[333333333u32, 333333333, 333333333, 333333333, 333333333],
+    );
+    show(
+        b"figure 8, node 6",
+        &vector,
+        5,
+        8,
+        6,
+        &[1u32, 2, 333333333, 999999999, 5],
+    );
+    let empty = [0u32; 0];
+    show(b"leaf 0", &empty, 1, 0, 0, &[5u32]);
+    show(b"leaf 1", &empty, 256, 0, 1, &[1u32; 256]);
+    show(b"leaf 1 over nodes", &vector, 5, 8, 1, &[0u32, 1, 2, 3, 4]);
+    show(
+        b"equal nodes",
+        &[1u32, 1, 0, 1, 1, 0, 0, 2, 3],
+        2,
+        3,
+        4,
+        &[333333333u32, 123456789],
+    );
+    show(
+        b"behind the count",
+        &[0u32, 1, 0, 9, 9, 9],
+        1,
+        1,
+        2,
+        &[123456789u32, 4000000000],
+    );
+    show(b"full areas", &[0u32; 48], 1, 0, 1, &[5u32]);
+}
+
+// Number 12.
+fn no_diagram() {
+    let one = [0u32, 1, 0];
+    show(b"no event", &one, 0, 1, 2, &[5u32]);
+    show(b"257 events", &one, 257, 1, 2, &[5u32]);
+    show(b"no table of threes", &[0u32, 1, 0, 0], 1, 1, 2, &[5u32]);
+    show(b"count too high", &one, 1, 2, 2, &[5u32]);
+    show(
+        b"count beyond counting",
+        &one,
+        1,
+        18446744073709551615,
+        2,
+        &[5u32],
+    );
+    show(b"root too high", &one, 1, 1, 3, &[5u32]);
+    show(b"event too high", &[1u32, 1, 0], 1, 1, 2, &[5u32]);
+    show(b"branch own number", &[0u32, 2, 0], 1, 1, 2, &[5u32]);
+    show(
+        b"branch higher",
+        &[0u32, 1, 3, 1, 1, 0],
+        2,
+        2,
+        2,
+        &[5u32, 5],
+    );
+    show(
+        b"event repeated",
+        &[0u32, 1, 0, 0, 2, 0],
+        2,
+        2,
+        3,
+        &[5u32, 5],
+    );
+    show(b"equal branches", &[0u32, 1, 1], 1, 1, 2, &[5u32]);
+    show(b"unreached fault", &[0u32, 1, 0, 0, 1, 1], 1, 2, 2, &[5u32]);
+    show(b"fault under a leaf root", &[0u32, 1, 1], 1, 1, 0, &[5u32]);
+}
+
+// Numbers 9 and 7, and which comes first.
+fn refusals() {
+    let one = [0u32, 1, 0];
+    show(b"no chance for event 1", &one, 2, 1, 2, &[5u32]);
+    show(b"areas below the capacity", &[0u32; 51], 1, 0, 1, &[5u32]);
+    show(b"chance above D", &one, 1, 1, 2, &[1000000001u32]);
+    show(
+        b"chance above D of an event in no node",
+        &one,
+        2,
+        1,
+        2,
+        &[5u32, 1000000001],
+    );
+    show(b"chance above D of a leaf", &one, 1, 0, 0, &[1000000001u32]);
+    show(
+        b"chance above D beyond the events",
+        &one,
+        1,
+        1,
+        2,
+        &[5u32, 1000000001],
+    );
+    show(
+        b"12 before 9 and 7",
+        &[0u32, 1, 1],
+        2,
+        1,
+        2,
+        &[1000000001u32],
+    );
+    show(b"9 before 7", &one, 2, 1, 2, &[1000000001u32]);
+}
+
+fn main() {
+    cases();
+    diagrams();
+    no_diagram();
+    refusals();
+}
