@@ -44,36 +44,23 @@ fn cases() {
     show(b"case 6", &two_of_three, 3, 6, 7, &tenths);
     let both = [1u32, 1, 0, 0, 2, 0];
     show(b"case 8", &both, 2, 2, 3, &[1u32, 1]);
-    show(b"never", &either, 3, 6, 7, &[0u32, 0, 0]);
-    show(
-        b"always",
-        &either,
-        3,
-        6,
-        7,
-        &[1000000000u32, 1000000000, 1000000000],
-    );
-    show(
-        b"certain",
-        &either,
-        3,
-        6,
-        7,
-        &[0u32, 1000000000, 1000000000],
-    );
-    show(
-        b"one certain",
-        &either,
-        3,
-        6,
-        7,
-        &[333333333u32, 1000000000, 1],
-    );
 }
 
-// The node vector of document 003, figure 8, which is not monotone; leaf roots; equal nodes.
-fn diagrams() {
-    let vector = [
+// Chances 0 and D.
+fn certainties() {
+    let either = [2u32, 1, 0, 1, 2, 0, 1, 1, 0, 0, 4, 3];
+    show(b"never", &either, 3, 4, 5, &[0u32, 0, 0]);
+    let all = [1000000000u32, 1000000000, 1000000000];
+    show(b"always", &either, 3, 4, 5, &all);
+    let two = [0u32, 1000000000, 1000000000];
+    show(b"without event 0", &either, 3, 4, 5, &two);
+    let mixed = [333333333u32, 1000000000, 1];
+    show(b"with event 1", &either, 3, 4, 5, &mixed);
+}
+
+// The node vector of document 003, figure 8, which is not monotone.
+fn figure_8() {
+    let nodes = [
         4u32,
         0,
         1,
@@ -99,34 +86,20 @@ fn diagrams() {
         7,
         8,
     ];
-    show(
-        b"figure 8, halves",
-        &vector,
-        5,
-        8,
-        9,
-        &[500000000u32, 500000000, 500000000, 500000000, 500000000],
-    );
-    show(
-        b"figure 8, thirds",
-        &vector,
-        5,
-        8,
-        9,
-        &[333333333u32, 333333333, 333333333, 333333333, 333333333],
-    );
-    show(
-        b"figure 8, node 6",
-        &vector,
-        5,
-        8,
-        6,
-        &[1u32, 2, 333333333, 999999999, 5],
-    );
+    let halves = [500000000u32, 500000000, 500000000, 500000000, 500000000];
+    show(b"figure 8, halves", &nodes, 5, 8, 9, &halves);
+    let thirds = [333333333u32, 333333333, 333333333, 333333333, 333333333];
+    show(b"figure 8, thirds", &nodes, 5, 8, 9, &thirds);
+    let uneven = [1u32, 2, 333333333, 999999999, 5];
+    show(b"figure 8, node 6", &nodes, 5, 8, 6, &uneven);
+    show(b"figure 8, leaf 1", &nodes, 5, 8, 1, &uneven);
+}
+
+// Diagrams that no tree builds.
+fn other_diagrams() {
     let empty = [0u32; 0];
     show(b"leaf 0", &empty, 1, 0, 0, &[5u32]);
-    show(b"leaf 1", &empty, 256, 0, 1, &[1u32; 256]);
-    show(b"leaf 1 over nodes", &vector, 5, 8, 1, &[0u32, 1, 2, 3, 4]);
+    show(b"leaf 1", &empty, 2, 0, 1, &[5u32, 6]);
     show(
         b"equal nodes",
         &[1u32, 1, 0, 1, 1, 0, 0, 2, 3],
@@ -146,8 +119,8 @@ fn diagrams() {
     show(b"full areas", &[0u32; 48], 1, 0, 1, &[5u32]);
 }
 
-// Number 12.
-fn no_diagram() {
+// Number 12: counts and lengths.
+fn bad_counts() {
     let one = [0u32, 1, 0];
     show(b"no event", &one, 0, 1, 2, &[5u32]);
     show(b"257 events", &one, 257, 1, 2, &[5u32]);
@@ -162,6 +135,10 @@ fn no_diagram() {
         &[5u32],
     );
     show(b"root too high", &one, 1, 1, 3, &[5u32]);
+}
+
+// Number 12: nodes.
+fn bad_nodes() {
     show(b"event too high", &[1u32, 1, 0], 1, 1, 2, &[5u32]);
     show(b"branch own number", &[0u32, 2, 0], 1, 1, 2, &[5u32]);
     show(
@@ -192,16 +169,16 @@ fn refusals() {
     show(b"areas below the capacity", &[0u32; 51], 1, 0, 1, &[5u32]);
     show(b"chance above D", &one, 1, 1, 2, &[1000000001u32]);
     show(
-        b"chance above D of an event in no node",
+        b"above D, event in no node",
         &one,
         2,
         1,
         2,
         &[5u32, 1000000001],
     );
-    show(b"chance above D of a leaf", &one, 1, 0, 0, &[1000000001u32]);
+    show(b"above D, leaf root", &one, 1, 0, 0, &[1000000001u32]);
     show(
-        b"chance above D beyond the events",
+        b"above D beyond the events",
         &one,
         1,
         1,
@@ -221,7 +198,10 @@ fn refusals() {
 
 fn main() {
     cases();
-    diagrams();
-    no_diagram();
+    certainties();
+    figure_8();
+    other_diagrams();
+    bad_counts();
+    bad_nodes();
     refusals();
 }
