@@ -1,9 +1,9 @@
 -- What an outcome that the contract allows tells: there is one; and one with number 0 brackets the exact chance.
 -- Assumes nothing.
-use mathlib.Core.Path.{_≡_, refl, sym, ap, _∙_, subst, subst₂}
+use mathlib.Core.Path.{_≡_, sym, _∙_, subst, subst₂}
 use mathlib.Core.Bool.{false}
 use mathlib.Core.List.{List}
-use Prim.Native.Nat.{ℕ, zero, suc, _+_, _-_, _≤_, _<_}
+use Prim.Native.Nat.{ℕ, suc, _-_, _≤_, _<_}
 use native.Mathlib.Omega.{arith}
 use Rattle.paper.specs.Limits.{billion}
 use Rattle.paper.specs.Functions.{dependsOn}
@@ -17,7 +17,7 @@ use Rattle.tables.specs.Stored.{Unique}
 use Rattle.tables.specs.Lent.{Lent}
 use Rattle.tables.proofs.Lent.{root-ordered}
 use Rattle.tables.proofs.Once.{lent-good}
-use Rattle.bracket.specs.Bracketed.{chanceIn, Enough, Chances, Refused, Done, Bracketed, no-diagram, too-short, no-chance, done}
+use Rattle.bracket.specs.Bracketed.{chanceIn, Chances, Refused, Done, Bracketed, no-diagram, too-short, no-chance, done}
 
 -- ---- TWO OUTCOMES COINCIDE
 

@@ -1,16 +1,14 @@
 -- The pass over the nodes: each number is at most D, and is read off a work area.
 -- Assumes nothing.
 use mathlib.Core.Path.{_≡_, refl, sym, ap, ap₂, _∙_, subst}
-use mathlib.Core.Bool.{Bool, true, false}
 use mathlib.Core.List.{List}
 use Prim.Native.Nat.{ℕ, zero, suc, _+_, _-_, _*_, _/_, _≤_, _<_}
 use native.Mathlib.Nat.{mul-le-mul-left}
 use native.Mathlib.Decide.{ℕ-discrete}
 use native.Mathlib.Omega.{arith}
-use lib.ListN.{length, getD, set, length-set}
+use lib.ListN.{length, getD, set}
 use lib.Seq.{getD-set-same, getD-set-other}
 use Rattle.paper.specs.Limits.{billion}
-use Rattle.paper.specs.Diagrams.{Diagram}
 use Rattle.paper.specs.Chance.{bound, low, high}
 use Rattle.tables.specs.Table.{den, eventOf, failedOf, soundOf}
 use Rattle.tables.specs.Stored.{Lower}

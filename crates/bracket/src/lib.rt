@@ -1,6 +1,6 @@
 // The bracket: two numbers of billionths that enclose the chance of a lent diagram's root.
 ghost use mathlib.Core.Path.{_≡_};
-ghost use Prim.Native.Nat.{ℕ, _+_, _-_, _*_, _/_, _≤_, _<_};
+ghost use Prim.Native.Nat.{_+_, _-_, _*_, _/_, _≤_, _<_};
 ghost use lib.ListN.{length, set};
 ghost use Rattle.paper.specs.Limits.{billion};
 ghost use Rattle.tables.specs.Flags.{Says};

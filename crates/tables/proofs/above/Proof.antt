@@ -1,5 +1,5 @@
 -- `tables::above` meets its contract. Assumes nothing.
-use Prim.Native.Nat.{_-_, _<_}
+use Prim.Native.Nat.{_-_}
 use native.Mathlib.Omega.{arith}
 use Rattle.tables.proofs.Flags.{says-ltb}
 use borrow.Author.Needs.{needs}

@@ -1,10 +1,10 @@
 -- `tables::clear` meets its contract. Assumes nothing.
-use mathlib.Core.Path.{_≡_, refl, sym, ap, ap₂, _∙_, subst}
+use mathlib.Core.Path.{_≡_, ap, ap₂, _∙_}
 use mathlib.Core.List.{List, _++_, append-nil}
-use Prim.Native.Nat.{ℕ, _+_, _-_, _*_, _≤_, _<_}
+use Prim.Native.Nat.{ℕ, _+_, _-_, _≤_}
 use native.Mathlib.Omega.{arith}
-use lib.ListN.{length, getD, set, drop, replicate}
-use lib.ListN.{length-append, length-replicate, length-drop, length-set, drop-of-length-le}
+use lib.ListN.{length, set, drop, replicate}
+use lib.ListN.{length-append, length-replicate, length-drop, drop-of-length-le}
 use borrow.Author.Fill.{fill-none, fill-more}
 use Rattle.tables.proofs.clear.Statement.{statement}
 use Rattle.tables.proofs.clear.Tie as tie

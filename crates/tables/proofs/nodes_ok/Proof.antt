@@ -1,5 +1,5 @@
 -- `tables::nodes_ok` meets its contract. Assumes nothing.
-use Prim.Native.Nat.{ℕ, _+_, _-_, _*_, _≤_, _<_}
+use Prim.Native.Nat.{ℕ, _+_, _-_, _≤_, _<_}
 use borrow.Author.Count.{below-more}
 use native.Mathlib.Omega.{arith}
 use borrow.Author.Tests.{not-true, not-false}
