@@ -20,35 +20,27 @@ abbrev μ-loop : tie.MeasureT-loop
 long : (c : tie.At-loop Inv-loop μ-loop) → length (c .loop .work) ≡ length (c .before .args .work .now)
 long c = ap length (c .loop .inv .1) ∙ simp (length-append, length-replicate, length-drop) (omega arith)
 
--- src/lib.rt:70:5
 loop-holds : tie.Need-loop-holds Inv-loop μ-loop
 loop-holds c = (omega arith, fill-none (c .args .work .now) 0)
 
--- src/lib.rt:71:9
 mul-work : tie.Need-mul-work Inv-loop μ-loop
 mul-work c = omega (arith, long (c .before))
 
--- src/lib.rt:71:9
 slice-write-work : tie.Need-slice-write-work Inv-loop μ-loop
 slice-write-work c = omega arith
 
--- src/lib.rt:72:9
 add-i : tie.Need-add-i Inv-loop μ-loop
 add-i c = omega (arith, long (c .before))
 
--- src/lib.rt:70:5
 loop-less : tie.Need-loop-less Inv-loop μ-loop
 loop-less c = omega (arith, long (c .before))
 
--- src/lib.rt:70:5
 loop-again : tie.Need-loop-again Inv-loop μ-loop
 loop-again c = (omega (arith, long (c .before)), ap (λ (x : List ℕ). set x (c .before .loop .i) 0) (c .before .loop .inv .1) ∙ fill-more (c .before .loop .i) 0 (c .before .before .args .work .now) (omega (arith, long (c .before))))
 
--- src/lib.rt:66:1
 same-length : tie.Need-same-length Inv-loop μ-loop
 same-length c = long (c .before)
 
--- src/lib.rt:66:1
 returns : tie.Need-returns Inv-loop μ-loop
 returns c =
     let r = c .before .before .args .work .now in
