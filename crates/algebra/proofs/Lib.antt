@@ -20,3 +20,5 @@ pub mod Gates
 pub mod Rules
 pub mod Canon
 pub mod SameChance
+pub mod Families
+pub mod Promises

@@ -119,11 +119,11 @@ densFrom T k m = map (λ j. den T (j + 2)) (upTo k m)
 abbrev pub dens : List ℕ → ℕ → List Diagram
 dens T c = densFrom T c 0
 
-dens-length : (T : List ℕ) (k m : ℕ) → length (densFrom T k m) ≡ k
+pub dens-length : (T : List ℕ) (k m : ℕ) → length (densFrom T k m) ≡ k
 dens-length T zero m = refl
 dens-length T (suc k) m = ap suc (dens-length T k (suc m))
 
-in-dens : (T : List ℕ) (k m j : ℕ) → m ≤ j → j < m + k → In (den T (j + 2)) (densFrom T k m)
+pub in-dens : (T : List ℕ) (k m j : ℕ) → m ≤ j → j < m + k → In (den T (j + 2)) (densFrom T k m)
 in-dens T zero m j a b = absurd (omega arith)
 in-dens T (suc k) m j a b = go (three m j) (in-dens T k (suc m) j)
   where
@@ -132,13 +132,13 @@ in-dens T (suc k) m j a b = go (three m j) (in-dens T k (suc m) j)
     go (beyond l u w) r = absurd (omega arith)
     go (equal l u w) r = inl (ap (λ x. den T (x + 2)) (sym l))
 
-dens-in : (T : List ℕ) (k m : ℕ) (x : Diagram) → In x (densFrom T k m) → (j : ℕ) × (m ≤ j) × (j < m + k) × (x ≡ den T (j + 2))
+pub dens-in : (T : List ℕ) (k m : ℕ) (x : Diagram) → In x (densFrom T k m) → (j : ℕ) × (m ≤ j) × (j < m + k) × (x ≡ den T (j + 2))
 dens-in T zero m x h = absurd h
 dens-in T (suc k) m x (inl e) = (m, omega arith, omega arith, e)
 dens-in T (suc k) m x (inr h) = let (j, a, b, e) = dens-in T k (suc m) x h in (j, omega arith, omega arith, e)
 
 module _ {T : List ℕ} {c : ℕ} (low : Lower T c) (unique : Unique T c) where
-  dens-once : (k m : ℕ) → m + k ≤ c → Once (densFrom T k m)
+  pub dens-once : (k m : ℕ) → m + k ≤ c → Once (densFrom T k m)
   dens-once zero m h = tt
   dens-once (suc k) m h = (
     (λ i. let (j, a, b, e) = dens-in T k (suc m) (den T (m + 2)) i in

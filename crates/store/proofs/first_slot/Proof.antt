@@ -1,0 +1,44 @@
+use mathlib.Core.Path.{refl}
+use Prim.Native.Nat.{_+_, _*_, _%_}
+use native.Mathlib.Omega.{arith}
+use Rattle.store.specs.Store.{firstSlot}
+use Rattle.store.proofs.Slots.{scaled-fits, first-below}
+use borrow.Author.Needs.{needs}
+use Rattle.store.proofs.first_slot.Statement.{statement}
+use Rattle.store.proofs.first_slot.Tie as tie
+
+mul-x : tie.Need-mul-x
+mul-x c = search needs
+
+mul-x-2 : tie.Need-mul-x-2
+mul-x-2 c = search needs
+
+add-x : tie.Need-add-x
+add-x c = search needs
+
+mul-x-3 : tie.Need-mul-x-3
+mul-x-3 c = search needs
+
+add-x-2 : tie.Need-add-x-2
+add-x-2 c = search needs
+
+mul-y : tie.Need-mul-y
+mul-y c = search needs
+
+usable-requires : tie.Need-usable-requires
+usable-requires c κs = search needs
+
+mul-result : tie.Need-mul-result
+mul-result c = let q = scaled-fits ((c .before .args .e * 7919 + c .before .args .failed * 12582917 + c .before .args .sound * 4256249) % 4294967296 * 2654435769 % 4294967296) (c .usable .result) (omega arith) (omega arith) (omega arith) in search (needs, q)
+
+returns : tie.Need-returns
+unfolding firstSlot
+returns c =
+    let a = c .before .args in
+    let q = c .usable .ensures in
+    record { is = rw q refl; below = rw q (first-below (a .e) (a .failed) (a .sound) (a .slots) (c .before .pre)) }
+
+pub first-slot-spec : {M : Type 1} → statement M
+first-slot-spec =
+    tie.close
+    (tie.spec mul-x mul-x-2 add-x mul-x-3 add-x-2 mul-y usable-requires mul-result returns)
