@@ -1,4 +1,4 @@
--- Document 01, "Answer numbers": the number and the place of each case of an answer.
+-- The paper's number and place for each case of an answer.
 use Prim.Native.Nat.{ℕ}
 use mathlib.Core.Bool.{Bool, true, false}
 use Rattle.records.specs.declared.Answer.{Answer}
@@ -8,17 +8,17 @@ pub record Verdict : Type 0 where
   pub number : ℕ
   pub place : ℕ
 
-abbrev pub paper : Answer → Verdict
-paper Done = record { number = 0; place = 0 }
-paper (Cut p) = record { number = 1; place = p }
-paper (UnknownKind p) = record { number = 2; place = p }
-paper (OutOfPlace p) = record { number = 3; place = p }
-paper (Count p) = record { number = 4; place = p }
-paper (Threshold p) = record { number = 5; place = p }
-paper (Reference p) = record { number = 6; place = p }
-paper (Chance p) = record { number = 7; place = p }
-paper (Unused p) = record { number = 8; place = p }
-paper Room = record { number = 9; place = 0 }
+abbrev pub verdict : Answer → Verdict
+verdict Done = record { number = 0; place = 0 }
+verdict (Cut p) = record { number = 1; place = p }
+verdict (UnknownKind p) = record { number = 2; place = p }
+verdict (OutOfPlace p) = record { number = 3; place = p }
+verdict (Count p) = record { number = 4; place = p }
+verdict (Threshold p) = record { number = 5; place = p }
+verdict (Reference p) = record { number = 6; place = p }
+verdict (Chance p) = record { number = 7; place = p }
+verdict (Unused p) = record { number = 8; place = p }
+verdict Room = record { number = 9; place = 0 }
 
 abbrev pub isDone : Answer → Bool
 isDone Done = true
