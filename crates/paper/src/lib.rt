@@ -1,2 +1,46 @@
-// The rules that the analyser keeps, as definitions in specs/; and the limits that they name.
-pub fn nothing() {}
+// The rules that the analyser keeps: specs/ has them as definitions, one file for each idea; here are the limits that code and definitions share.
+ghost use mathlib.Core.Path.{_≡_};
+ghost use Rattle.paper.specs.Limits.{limits, mostNumbers, billion};
+
+// The most events, gates, inputs to one gate, and inputs in all.
+pub const EVENTS: usize = 256;
+
+pub const GATES: usize = 512;
+
+pub const INPUTS: usize = 64;
+
+pub const IN_ALL: usize = 4096;
+
+// The most numbers of a table, three for each node.
+pub const TABLE: usize = 3000000;
+
+// A chance is counted in billionths.
+pub const BILLION: u32 = 1000000000;
+
+// The constants as one value, so that what code counts with is shown to be what the definitions say.
+pub struct Bounds {
+    pub events: usize,
+    pub gates: usize,
+    pub inputs: usize,
+    pub in_all: usize,
+    pub table: usize,
+    pub billion: u32,
+}
+
+pub fn all_bounds() -> Bounds
+    ensures events { λ r. ⌜ r .events ≡ limits .events ⌝ }
+    ensures gates { λ r. ⌜ r .gates ≡ limits .gates ⌝ }
+    ensures inputs { λ r. ⌜ r .inputs ≡ limits .inputs ⌝ }
+    ensures in_all { λ r. ⌜ r .«in_all» ≡ limits .inAll ⌝ }
+    ensures table { λ r. ⌜ r .table ≡ mostNumbers ⌝ }
+    ensures billion { λ r. ⌜ r .billion ≡ billion ⌝ }
+{
+    Bounds {
+        events: EVENTS,
+        gates: GATES,
+        inputs: INPUTS,
+        in_all: IN_ALL,
+        table: TABLE,
+        billion: BILLION,
+    }
+}

@@ -1,0 +1,3 @@
+-- Operations on diagrams, and on the families that diagrams denote.
+pub mod Operations
+pub mod Families

@@ -1,0 +1,32 @@
+-- The answer numbers, and when those that speak of functions, families and sets are given.
+-- Assumes nothing.
+use mathlib.Core.Path.{_≡_}
+use mathlib.Core.Bool.{true}
+use Prim.Native.Nat.{ℕ, _≤_, _<_}
+use Rattle.paper.specs.Sets.{Set}
+use Rattle.paper.specs.Trees.{Tree, events, rootFun}
+use Rattle.paper.specs.Nodes.{nodesOf}
+use Rattle.paper.specs.Cuts.{cutNodesNeeded}
+
+-- a number of the list and its place; a done answer, and a refusal by 9 to 14, has place 0
+pub record Verdict : Type 0 where
+  pub number : ℕ
+  pub place : ℕ
+
+-- 10: nodes needed exceeds the capacity
+abbrev pub NodesFull : Tree → ℕ → Type 0
+NodesFull t capacity = capacity < nodesOf t
+
+-- cut nodes needed by the root of a tree
+abbrev pub cutNodesOf : Tree → ℕ
+cutNodesOf t = cutNodesNeeded (events t) (rootFun (t .gates))
+
+-- 11: cut nodes needed exceeds the capacity
+abbrev pub CutsFull : Tree → ℕ → Type 0
+CutsFull t capacity = capacity < cutNodesOf t
+
+-- 13: a set names an event beyond the number of events
+pub record Beyond (n : ℕ) (S : Set) : Type 0 where
+  pub event : ℕ
+  pub above : n ≤ event
+  pub is : S event ≡ true

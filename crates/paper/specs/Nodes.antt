@@ -1,0 +1,22 @@
+-- How many nodes a table needs: said of functions, whatever builds them.
+-- Assumes nothing.
+use mathlib.Core.Bool.{Bool, true, false}
+use mathlib.Core.List.{List, map}
+use Prim.Native.Nat.{ℕ}
+use lib.ListN.{length, take}
+use Rattle.paper.specs.Lists.{keep, flat, distinct}
+use Rattle.paper.specs.Functions.{Fun, fixF, reach, table, table-discrete, varies}
+use Rattle.paper.specs.Trees.{Tree, events}
+use Rattle.paper.specs.Steps.{stepFuns}
+
+-- NODES NEEDED: the number of distinct non-constant functions obtained from one of these functions of n events
+-- by fixing the first m events in some way, m from 0 to n
+unfoldable pub nodesNeeded : ℕ → List Fun → ℕ
+nodesNeeded n Fs = distinct table-discrete (keep varies (map (table n) (flat (reach fixF n 0) Fs)))
+
+-- by the first g gates of a tree, and by all of them
+abbrev pub nodesToGate : Tree → ℕ → ℕ
+nodesToGate t g = nodesNeeded (events t) (stepFuns (take g (t .gates)))
+
+abbrev pub nodesOf : Tree → ℕ
+nodesOf t = nodesNeeded (events t) (stepFuns (t .gates))

@@ -1,0 +1,91 @@
+-- Fault trees: events, gates over events and earlier gates, and the function of each gate.
+-- Assumes nothing.
+use mathlib.Core.Bool.{Bool, true, false, cond, not, _&&_, _||_, Bool·beq}
+use mathlib.Core.List.{List, [], _∷_, _++_, map}
+use Prim.Native.Nat.{ℕ, zero, suc, _+_, _<_}
+use lib.Dec.{leb}
+use lib.ListN.{length, getD, take}
+use Rattle.paper.specs.Lists.{lastOr}
+use Rattle.paper.specs.Sets.{Set}
+use Rattle.paper.specs.Functions.{Fun}
+
+pub data Input : Type 0 where
+  event : ℕ → Input
+  gate : ℕ → Input
+
+-- and, or, at least k
+pub data Gate : Type 0 where
+  andG : List Input → Gate
+  orG : List Input → Gate
+  leastG : ℕ → List Input → Gate
+
+-- the chance of each event, in billionths; and the gates, the last of which is the root
+pub record Tree : Type 0 where
+  pub chances : List ℕ
+  pub gates : List Gate
+
+-- the number of events
+abbrev pub events : Tree → ℕ
+events t = length (t .chances)
+
+-- ---- what a gate means
+
+abbrev pub eventF : ℕ → Fun
+eventF e v = v e
+
+abbrev pub constF : Bool → Fun
+constF b v = b
+
+-- every input fails; some input fails; how many inputs fail
+abbrev pub everyFails : List Fun → Set → Bool
+everyFails [] v = true
+everyFails (F ∷ Fs) v = F v && everyFails Fs v
+
+abbrev pub someFails : List Fun → Set → Bool
+someFails [] v = false
+someFails (F ∷ Fs) v = F v || someFails Fs v
+
+abbrev pub countFails : List Fun → Set → ℕ
+countFails [] v = 0
+countFails (F ∷ Fs) v = cond (F v) 1 0 + countFails Fs v
+
+-- gs are the functions of the gates before
+abbrev pub inputFun : List Fun → Input → Fun
+inputFun gs (event e) = eventF e
+inputFun gs (gate i) = getD gs i (constF false)
+
+abbrev pub gateFun : List Fun → Gate → Fun
+gateFun gs (andG is) v = everyFails (map (inputFun gs) is) v
+gateFun gs (orG is) v = someFails (map (inputFun gs) is) v
+gateFun gs (leastG k is) v = leb k (countFails (map (inputFun gs) is) v)
+
+-- the functions of all gates, those of the earlier ones given
+abbrev pub gateFunsFrom : List Fun → List Gate → List Fun
+gateFunsFrom gs [] = gs
+gateFunsFrom gs (g ∷ t) = gateFunsFrom (gs ++ (gateFun gs g ∷ [])) t
+
+unfoldable pub gateFuns : List Gate → List Fun
+gateFuns t = gateFunsFrom [] t
+
+unfoldable pub rootFun : List Gate → Fun
+rootFun t = lastOr (constF false) (gateFuns t)
+
+-- ---- the events and gates that a tree may name
+
+-- every event of the tree is below n
+abbrev pub InputBelow : ℕ → Input → Type 0
+InputBelow n (event e) = e < n
+InputBelow n (gate i) = Unit {0}
+
+abbrev pub InputsBelow : ℕ → List Input → Type 0
+InputsBelow n [] = Unit {0}
+InputsBelow n (i ∷ is) = InputBelow n i × InputsBelow n is
+
+abbrev pub GateBelow : ℕ → Gate → Type 0
+GateBelow n (andG is) = InputsBelow n is
+GateBelow n (orG is) = InputsBelow n is
+GateBelow n (leastG k is) = InputsBelow n is
+
+abbrev pub TreeBelow : ℕ → List Gate → Type 0
+TreeBelow n [] = Unit {0}
+TreeBelow n (g ∷ t) = GateBelow n g × TreeBelow n t

@@ -1,0 +1,2 @@
+-- What a table of nodes denotes.
+pub mod Table
