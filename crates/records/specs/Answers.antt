@@ -1,12 +1,8 @@
 -- The paper's number and place for each case of an answer.
-use Prim.Native.Nat.{ℕ}
 use mathlib.Core.Bool.{Bool, true, false}
+use Rattle.paper.specs.Answers.{Verdict}
 use Rattle.records.specs.declared.Answer.{Answer}
 use Rattle.records.specs.declared.Answer.the-variants.{Done, Cut, UnknownKind, OutOfPlace, Count, Threshold, Reference, Chance, Unused, Room}
-
-pub record Verdict : Type 0 where
-  pub number : ℕ
-  pub place : ℕ
 
 abbrev pub verdict : Answer → Verdict
 verdict Done = record { number = 0; place = 0 }

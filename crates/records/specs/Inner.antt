@@ -4,8 +4,8 @@ use mathlib.Core.Path.{_≡_}
 use mathlib.Core.List.{List, _++_}
 use lib.ListN.{length, take}
 use Rattle.paper.specs.Limits.{limits}
+use Rattle.paper.specs.Lists.{sum}
 use Rattle.records.specs.Format.{recordOf, encode}
-use Rattle.records.specs.Uses.{total}
 use Rattle.records.specs.Judge.{Book, counts, unusedBy, closeOf, accept, answerOf, outcome}
 use Rattle.records.specs.Memory.{pad, noEvent, inMemory}
 use Rattle.records.specs.Bytes.{bytesOf}
@@ -35,7 +35,7 @@ pub record Complete (events : ℕ) (sizes places inputs : List ℕ) : Type 0 whe
   pub some : 1 ≤ length sizes
   pub few-gates : length sizes ≤ limits .gates
   pub placed : length places ≡ length sizes
-  pub whole : total sizes ≡ length inputs
+  pub whole : sum sizes ≡ length inputs
 
 -- the fronts of t's arrays and of ps are what b has
 pub record Fronts (b : Book) (t : Tree) (ps : List ℕ) : Type 0 where
@@ -45,7 +45,7 @@ pub record Fronts (b : Book) (t : Tree) (ps : List ℕ) : Type 0 where
   pub fewEvents : length (b .events) ≤ limits .events
   pub fewGates : length (b .sizes) ≤ limits .gates
   pub samePlaces : length (b .places) ≡ length (b .sizes)
-  pub totalInputs : total (b .sizes) ≡ length (b .inputs) + b .left
+  pub totalInputs : sum (b .sizes) ≡ length (b .inputs) + b .left
 
 -- a tree with a gate, whose gates have all their inputs
 abbrev pub Ready : Tree → List ℕ → State → Type 0
@@ -68,7 +68,7 @@ pub record Held (b : Book) (t : Tree) (ps : List ℕ) : Type 0 where
   pub sameKinds : length (b .kinds) ≡ length (b .sizes)
   pub sameLeasts : length (b .leasts) ≡ length (b .sizes)
   pub samePlaces : length (b .places) ≡ length (b .sizes)
-  pub totalInputs : total (b .sizes) ≡ length (b .inputs) + b .left
+  pub totalInputs : sum (b .sizes) ≡ length (b .inputs) + b .left
 
 abbrev pub Closes : Tree → List ℕ → State → Reading → Type 0
 Closes t places s r = (b : Book) → Held b t places → s ≡ counts b → r ≡ inMemory (closeOf b)

@@ -2,8 +2,9 @@
 use Prim.Native.Nat.{ℕ, zero, suc, _+_, _-_}
 use mathlib.Core.List.{List, [], _∷_, _++_}
 use lib.ListN.{length}
+use Rattle.paper.specs.Answers.{Verdict}
 use Rattle.paper.specs.Limits.{Limits}
-use Rattle.records.specs.Answers.{Verdict, verdict}
+use Rattle.records.specs.Answers.{verdict}
 use Rattle.records.specs.Rules.{stepOf}
 use Rattle.records.specs.Uses.{unusedOf}
 use Rattle.records.specs.declared.Answer.{Answer}

@@ -1,5 +1,5 @@
 -- The tree that was read, as the paper has it.
-use Prim.Native.Nat.{ℕ, suc, _+_, _-_}
+use Prim.Native.Nat.{ℕ, _+_, _-_, _<_}
 use mathlib.Core.List.{List, [], _∷_, map}
 use lib.ListN.{getD, take, drop}
 use lib.Dec.{ltb, eqb}
@@ -29,3 +29,8 @@ treeOf b = record {
   chances = map (λ (e : Event). e .chance) (b .events);
   gates = gatesOf (b .kinds) (b .leasts) 0 (b .sizes) (b .inputs);
 }
+
+-- an input that gate g of a tree with so many events may have: one of the events, or a gate with a lower number
+pub record Fits (events g code : ℕ) : Type 0 where
+  pub below : code < gatesFrom + g
+  pub event : code < gatesFrom → code < events

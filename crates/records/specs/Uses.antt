@@ -13,11 +13,6 @@ use Rattle.records.specs.declared.uses.Found.the-variants.{At, Nothing}
 abbrev pub gatesFrom : ℕ
 gatesFrom = 256
 
--- the sum of some numbers
-unfoldable pub total : List ℕ → ℕ
-total [] = 0
-total (n ∷ ns) = n + total ns
-
 -- whether x is one of the inputs
 unfoldable pub among : ℕ → List ℕ → Bool
 among x [] = false

@@ -5,7 +5,8 @@ use crate::format::length as length_of;
 ghost use mathlib.Core.Path.{_≡_};
 ghost use Prim.Native.Nat.{_+_, _≤_};
 ghost use lib.ListN.{length};
-ghost use Rattle.records.specs.Uses.{total, among, lowestUnused, unusedOf};
+ghost use Rattle.paper.specs.Lists.{sum};
+ghost use Rattle.records.specs.Uses.{among, lowestUnused, unusedOf};
 ghost use Rattle.records.specs.Inner.{Below, Complete};
 
 // What a search for an unused item finds.
@@ -16,7 +17,7 @@ pub enum Found {
 
 // Whether the input `wanted` stands in some gate: sought gate by gate, up to the first use.
 fn used<'a>(sizes: &'a [u8], inputs: &'a [u16], wanted: u16) -> bool
-    requires { ⌜ total (now sizes) ≡ length (now inputs) ⌝ }
+    requires { ⌜ sum (now sizes) ≡ length (now inputs) ⌝ }
     ensures { λ r. ⌜ r ≡ among wanted (now (inputs .entry)) ⌝ }
 {
     let mut found = false;
@@ -40,7 +41,7 @@ fn used<'a>(sizes: &'a [u8], inputs: &'a [u16], wanted: u16) -> bool
 
 // The lowest i below count for which the input from + i stands in no gate.
 fn missing<'a>(sizes: &'a [u8], inputs: &'a [u16], from: u16, count: usize) -> Found
-    requires { ⌜ (total (now sizes) ≡ length (now inputs)) × (from + count ≤ 4096) ⌝ }
+    requires { ⌜ (sum (now sizes) ≡ length (now inputs)) × (from + count ≤ 4096) ⌝ }
     ensures { λ r. ⌜ (r ≡ lowestUnused count 0 from (now (inputs .entry))) × Below count r ⌝ }
 {
     let mut i: usize = 0;
