@@ -45,7 +45,7 @@ known b P p1 p2 p3 p4 p5 p6 p7 k some =
     (λ e4. either (eqb k 5) (λ e. rw (eqb-true k 5 e) p5)
     (λ e5. either (eqb k 6) (λ e. rw (eqb-true k 6 e) p6)
     (λ e6. either (eqb k 7) (λ e. rw (eqb-true k 7 e) p7)
-    (λ e7. absurd (some (rw (e1, e2, e3, e4, e5, e6, e7)))))))))) 
+    (λ e7. absurd (some (rw (e1, e2, e3, e4, e5, e6, e7))))))))))
 
 -- the record at the front of some bytes, by its four cases
 pub front : (b : List ℕ) (P : Record → Type 0)
@@ -104,3 +104,14 @@ gate-small kind k n = if-elim (λ (w : ℕ). (1 ≤ w) × (w ≤ 3)) (eqb kind 4
 pub body-end : (b : List ℕ) (k : ℕ) → (k ≡ 1 → ⊥) → (k ≡ 2 → ⊥) → (k ≡ 3 → ⊥) → (k ≡ 4 → ⊥) → (k ≡ 5 → ⊥) → (k ≡ 6 → ⊥) → End ≡ bodyOf k b
 unfolding bodyOf
 body-end b k n1 n2 n3 n4 n5 n6 = rw (ne-eqb k 1 n1, ne-eqb k 2 n2, ne-eqb k 3 n3, ne-eqb k 4 n4, ne-eqb k 5 n5, ne-eqb k 6 n6)
+
+pub length-small : (k : ℕ) → lengthOf k ≤ 5
+length-small k =
+    let P : ℕ → Type 0 = λ n. n ≤ 5 in
+    if-elim P (eqb k 1) (λ _. omega arith)
+    (λ _. if-elim P (eqb k 2) (λ _. omega arith)
+    (λ _. if-elim P (eqb k 3) (λ _. omega arith)
+    (λ _. if-elim P (eqb k 4) (λ _. omega arith)
+    (λ _. if-elim P (eqb k 5) (λ _. omega arith)
+    (λ _. if-elim P (eqb k 6) (λ _. omega arith)
+    (λ _. if-elim P (eqb k 7) (λ _. omega arith) (λ _. omega arith)))))))

@@ -37,38 +37,38 @@ module _ (n : ℕ) (sizes places inputs : List ℕ) where
   unfolding unusedOf
   unused-none e d = rw (e, d, unusedOf)
 
-module _ {b : Book} {t : Tree} {ps : List ℕ} (h : Fronts b t ps) {s : State} (e : s ≡ counts b) where
+module _ {b : Book} {sizes places inputs : List ℕ} (h : Fronts b sizes places inputs) {s : State} (e : s ≡ counts b) where
   gates-are : s .gates ≡ length (b .sizes)
   gates-are = ap (λ (x : State). x .gates) e
 
   inputs-count : s .inputs ≡ length (b .inputs)
   inputs-count = ap (λ (x : State). x .inputs) e
 
-  sizes-are : take (s .gates) (t .sizes) ≡ b .sizes
+  sizes-are : take (s .gates) sizes ≡ b .sizes
   sizes-are = rw gates-are (h .sizes)
 
-  places-are : take (s .gates) ps ≡ b .places
+  places-are : take (s .gates) places ≡ b .places
   places-are = rw gates-are (h .places)
 
-  inputs-are : take (s .inputs) (t .inputs) ≡ b .inputs
+  inputs-are : take (s .inputs) inputs ≡ b .inputs
   inputs-are = rw inputs-count (h .inputs)
 
   pub gates-few : s .gates ≤ limits .gates
   gates-few = omega (arith, h .fewGates, gates-are)
 
-  pub gates-fit : s .gates ≤ length (t .sizes)
-  gates-fit = omega (arith, sym (length-take (s .gates) (t .sizes)) ∙ ap length sizes-are, gates-are)
+  pub gates-fit : s .gates ≤ length sizes
+  gates-fit = omega (arith, sym (length-take (s .gates) sizes) ∙ ap length sizes-are, gates-are)
 
-  pub places-fit : s .gates ≤ length ps
-  places-fit = omega (arith, sym (length-take (s .gates) ps) ∙ ap length places-are, gates-are, h .samePlaces)
+  pub places-fit : s .gates ≤ length places
+  places-fit = omega (arith, sym (length-take (s .gates) places) ∙ ap length places-are, gates-are, h .samePlaces)
 
-  pub inputs-fit : s .inputs ≤ length (t .inputs)
-  inputs-fit = omega (arith, sym (length-take (s .inputs) (t .inputs)) ∙ ap length inputs-are, inputs-count)
+  pub inputs-fit : s .inputs ≤ length inputs
+  inputs-fit = omega (arith, sym (length-take (s .inputs) inputs) ∙ ap length inputs-are, inputs-count)
 
   abbrev sought : Found
-  sought = unusedOf (s .events) (take (s .gates) (t .sizes)) (take (s .gates) ps) (take (s .inputs) (t .inputs))
+  sought = unusedOf (s .events) (take (s .gates) sizes) (take (s .gates) places) (take (s .inputs) inputs)
 
-  pub complete : 1 ≤ length (b .sizes) → b .left ≡ 0 → Complete (s .events) (take (s .gates) (t .sizes)) (take (s .gates) ps) (take (s .inputs) (t .inputs))
+  pub complete : 1 ≤ length (b .sizes) → b .left ≡ 0 → Complete (s .events) (take (s .gates) sizes) (take (s .gates) places) (take (s .inputs) inputs)
   complete some none =
       rw (sizes-are, places-are, inputs-are, ap (λ (x : State). x .events) e)
       (record { few = h .fewEvents; some = some; few-gates = h .fewGates; placed = h .samePlaces; whole = omega (arith, h .totalInputs) })

@@ -32,3 +32,7 @@ module _ {ℓ} {A : Type ℓ} where
     pad-set x h =
         let e : n - length xs ≡ suc (n - length (_▷_ xs x)) = omega (arith, length-▷ xs x) in
         rw e (set-append-seam xs z (replicate (n - length (_▷_ xs x)) z) x ∙ sym (append-assoc xs (x ∷ []) _))
+
+    -- an array that holds xs, with one more stored behind them
+    pub pad-fill : (x : A) {l : List A} {g : ℕ} → l ≡ pad n z xs → length xs ≡ g → g < n → set l g x ≡ pad n z (_▷_ xs x)
+    pad-fill x e q h = rw (e, ← q) (pad-set x (omega arith))

@@ -1,14 +1,15 @@
 -- The bytes of a tree in memory, whatever its fields hold, and what writing them answers.
 use Prim.Native.Nat.{ℕ, zero, suc, _+_, _-_}
-use mathlib.Core.List.{List, _++_}
+use mathlib.Core.List.{List, [], _∷_, _++_}
 use lib.ListN.{length, getD, drop}
 use lib.Dec.{ltb, eqb}
 use Rattle.paper.specs.Limits.{Limits, limits}
+use Rattle.paper.specs.Lists.{sum}
 use Rattle.records.specs.Choice.{if_then_else_}
 use Rattle.records.specs.Format.{encode}
 use Rattle.records.specs.Uses.{gatesFrom}
 use Rattle.records.specs.Judge.{Outcome, accept, refuse, outcome}
-use Rattle.records.specs.Memory.{noEvent}
+use Rattle.records.specs.Memory.{pad, noEvent}
 use Rattle.records.specs.declared.Answer.{Answer}
 use Rattle.records.specs.declared.Answer.the-variants.{Done, Room}
 use Rattle.records.specs.declared.format.Record.{Record}
@@ -39,13 +40,16 @@ gateAt kinds leasts sizes g =
 abbrev pub inputAt : List ℕ → ℕ → Record
 inputAt inputs i = inputRecord (getD inputs i 0)
 
--- of so many events and gates, at s, the next event having the chance given
-abbrev pub nextOf : ℕ → ℕ → ℕ → List ℕ → List ℕ → List ℕ → List ℕ → State → Record
-nextOf events gates chance kinds leasts sizes inputs s =
-    if ltb (s .events) events then eventAt chance (s .events) else
+-- of so many events and gates, at s, the next event having the chance given; once the events are written, an input, a gate or the end
+abbrev pub laterOf : ℕ → List ℕ → List ℕ → List ℕ → List ℕ → State → Record
+laterOf gates kinds leasts sizes inputs s =
     if ltb 0 (s .left) then inputAt inputs (s .inputs) else
     if ltb (s .gates) gates then gateAt kinds leasts sizes (s .gates) else
     End
+
+abbrev pub nextOf : ℕ → ℕ → ℕ → List ℕ → List ℕ → List ℕ → List ℕ → State → Record
+nextOf events gates chance kinds leasts sizes inputs s =
+    if ltb (s .events) events then eventAt chance (s .events) else laterOf gates kinds leasts sizes inputs s
 
 abbrev pub chanceAt : Tree → ℕ → ℕ
 chanceAt t e = getD (t .events) e noEvent .chance
@@ -88,3 +92,24 @@ writeOf L t room =
           wrote Done (length (bytesOf t)) (bytesOf t ++ drop (length (bytesOf t)) room)
       | refuse a ↦ wrote a 0 room
     ]
+
+-- f 0 .. f (n - 1)
+unfoldable pub tabulate : {A : Type 0} → ℕ → (ℕ → A) → List A
+tabulate zero f = []
+tabulate (suc n) f = tabulate n f ++ (f n ∷ [])
+
+-- the k that a gate's record tells: an and and an or have none
+abbrev pub toldLeast : ℕ → ℕ → ℕ
+toldLeast kind k = if eqb kind 4 then k else 0
+
+-- what the bytes of t tell: nothing of what lies behind its counts
+unfoldable pub told : Tree → Tree
+told t = record {
+  events = pad (limits .events) noEvent (tabulate (t .«event_count») (λ e. getD (t .events) e noEvent));
+  «event_count» = t .«event_count»;
+  kinds = pad (limits .gates) 0 (tabulate (t .«gate_count») (λ g. getD (t .kinds) g 0));
+  leasts = pad (limits .gates) 0 (tabulate (t .«gate_count») (λ g. toldLeast (getD (t .kinds) g 0) (getD (t .leasts) g 0)));
+  sizes = pad (limits .gates) 0 (tabulate (t .«gate_count») (λ g. getD (t .sizes) g 0));
+  «gate_count» = t .«gate_count»;
+  inputs = pad (limits .inAll) 0 (tabulate (sum (tabulate (t .«gate_count») (λ g. getD (t .sizes) g 0))) (λ i. getD (t .inputs) i 0));
+}

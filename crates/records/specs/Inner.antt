@@ -37,24 +37,24 @@ pub record Complete (events : ℕ) (sizes places inputs : List ℕ) : Type 0 whe
   pub placed : length places ≡ length sizes
   pub whole : sum sizes ≡ length inputs
 
--- the fronts of t's arrays and of ps are what b has
-pub record Fronts (b : Book) (t : Tree) (ps : List ℕ) : Type 0 where
-  pub sizes : take (length (b .sizes)) (t .sizes) ≡ b .sizes
-  pub inputs : take (length (b .inputs)) (t .inputs) ≡ b .inputs
+-- the fronts of these arrays are what b has
+pub record Fronts (b : Book) (ns ps is : List ℕ) : Type 0 where
+  pub sizes : take (length (b .sizes)) ns ≡ b .sizes
   pub places : take (length (b .sizes)) ps ≡ b .places
+  pub inputs : take (length (b .inputs)) is ≡ b .inputs
   pub fewEvents : length (b .events) ≤ limits .events
   pub fewGates : length (b .sizes) ≤ limits .gates
   pub samePlaces : length (b .places) ≡ length (b .sizes)
   pub totalInputs : sum (b .sizes) ≡ length (b .inputs) + b .left
 
 -- a tree with a gate, whose gates have all their inputs
-abbrev pub Ready : Tree → List ℕ → State → Type 0
-Ready t places s = (b : Book) × Fronts b t places × (s ≡ counts b) × (1 ≤ length (b .sizes)) × (b .left ≡ 0)
+abbrev pub Ready : List ℕ → List ℕ → List ℕ → State → Type 0
+Ready sizes places inputs s = (b : Book) × Fronts b sizes places inputs × (s ≡ counts b) × (1 ≤ length (b .sizes)) × (b .left ≡ 0)
 
-abbrev pub Seeks : Tree → List ℕ → State → Found → Type 0
-Seeks t places s r = (b : Book) → Fronts b t places → s ≡ counts b → r ≡ unusedBy b
+abbrev pub Seeks : List ℕ → List ℕ → List ℕ → State → Found → Type 0
+Seeks sizes places inputs s r = (b : Book) → Fronts b sizes places inputs → s ≡ counts b → r ≡ unusedBy b
 
--- t's arrays and ps hold what b has, with zeros behind it, each list within its limit
+-- t's arrays and ps hold what b has, with zeros behind it
 pub record Held (b : Book) (t : Tree) (ps : List ℕ) : Type 0 where
   pub events : t .events ≡ pad (limits .events) noEvent (b .events)
   pub kinds : t .kinds ≡ pad (limits .gates) 0 (b .kinds)
@@ -62,16 +62,9 @@ pub record Held (b : Book) (t : Tree) (ps : List ℕ) : Type 0 where
   pub sizes : t .sizes ≡ pad (limits .gates) 0 (b .sizes)
   pub inputs : t .inputs ≡ pad (limits .inAll) 0 (b .inputs)
   pub places : ps ≡ pad (limits .gates) 0 (b .places)
-  pub fewEvents : length (b .events) ≤ limits .events
-  pub fewGates : length (b .sizes) ≤ limits .gates
-  pub fewInputs : length (b .inputs) + b .left ≤ limits .inAll
-  pub sameKinds : length (b .kinds) ≡ length (b .sizes)
-  pub sameLeasts : length (b .leasts) ≡ length (b .sizes)
-  pub samePlaces : length (b .places) ≡ length (b .sizes)
-  pub totalInputs : sum (b .sizes) ≡ length (b .inputs) + b .left
 
 abbrev pub Closes : Tree → List ℕ → State → Reading → Type 0
-Closes t places s r = (b : Book) → Held b t places → s ≡ counts b → r ≡ inMemory (closeOf b)
+Closes t places s r = (b : Book) → Held b t places → Fronts b (t .sizes) places (t .inputs) → s ≡ counts b → r ≡ inMemory (closeOf b)
 
 -- n itself, where the array of the events has it
 pub record Within (n r : ℕ) : Type 0 where

@@ -74,6 +74,16 @@ addInput b i next = record {
   inputs = _▷_ (b .inputs) i;
 }
 
+-- the state past each kind of record
+abbrev pub pastEvent : State → ℕ → State
+pastEvent s next = record { at = next; events = s .events + 1; gates = s .gates; inputs = s .inputs; left = s .left }
+
+abbrev pub pastGate : State → ℕ → ℕ → State
+pastGate s n next = record { at = next; events = s .events; gates = s .gates + 1; inputs = s .inputs; left = n }
+
+abbrev pub pastInput : State → ℕ → State
+pastInput s next = record { at = next; events = s .events; gates = s .gates; inputs = s .inputs + 1; left = s .left - 1 }
+
 pub data Outcome : Type 0 where
   accept : Book → Outcome
   refuse : Answer → Outcome

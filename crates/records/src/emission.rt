@@ -5,9 +5,11 @@ use crate::format::width;
 use crate::judge::Step;
 use crate::judge::admit;
 use crate::judge::begin;
+use crate::judge::past_event;
+use crate::judge::past_gate;
+use crate::judge::past_input;
 use crate::survey::tree_record;
 use crate::survey::within;
-
 ghost use mathlib.Core.Path.{_≡_};
 ghost use mathlib.Core.List.{_++_};
 ghost use Prim.Native.Nat.{_≤_};
@@ -37,20 +39,9 @@ pub fn emit(t: Tree, room: &mut [u8])
         );
         put(&mut room[at..], r);
         match admit(s, at + width(r), r) {
-            Step::AddEvent(_, after) => {
-                s.events = s.events + 1;
-                s.at = after;
-            }
-            Step::AddGate(_, _, n, after) => {
-                s.gates = s.gates + 1;
-                s.left = n as usize;
-                s.at = after;
-            }
-            Step::AddInput(_, after) => {
-                s.inputs = s.inputs + 1;
-                s.left = s.left - 1;
-                s.at = after;
-            }
+            Step::AddEvent(_, after) => s = past_event(s, after),
+            Step::AddGate(_, _, size, after) => s = past_gate(s, size, after),
+            Step::AddInput(_, after) => s = past_input(s, after),
             Step::Close => {
                 return;
             }

@@ -1,6 +1,5 @@
 // The records of a tree: what stands at the front of some bytes, and a record's bytes.
 use crate::GATES_FROM;
-
 ghost use mathlib.Core.Path.{_≡_};
 ghost use mathlib.Core.List.{_++_};
 ghost use Prim.Native.Nat.{_+_, _*_, _≤_};

@@ -9,13 +9,12 @@ use paper::EVENTS;
 use paper::GATES;
 use paper::IN_ALL;
 use paper::INPUTS;
-
 ghost use mathlib.Core.Path.{_≡_};
-ghost use Prim.Native.Nat.{_+_, _≤_};
+ghost use Prim.Native.Nat.{_+_, _≤_, _<_};
 ghost use lib.ListN.{length};
 ghost use Rattle.paper.specs.Limits.{limits};
 ghost use Rattle.records.specs.Format.{widthOf};
-ghost use Rattle.records.specs.Judge.{counts, start};
+ghost use Rattle.records.specs.Judge.{counts, start, pastEvent, pastGate, pastInput};
 ghost use Rattle.records.specs.Rules.{wrongK, eventStep, gateStep, eventInputStep, gateInputStep, endStep, admitOf, stepOf};
 ghost use Rattle.records.specs.Inner.{Bounded};
 
@@ -48,6 +47,48 @@ pub fn begin() -> State
         gates: 0,
         inputs: 0,
         left: 0,
+    }
+}
+
+// Past an event, whose record ends before `after`.
+pub fn past_event(s: State, after: usize) -> State
+    requires { ⌜ Bounded s ⌝ }
+    ensures { λ r. ⌜ r ≡ pastEvent s after ⌝ }
+{
+    State {
+        at: after,
+        events: s.events + 1,
+        gates: s.gates,
+        inputs: s.inputs,
+        left: s.left,
+    }
+}
+
+// Past the record of a gate of n inputs.
+pub fn past_gate(s: State, n: u8, after: usize) -> State
+    requires { ⌜ Bounded s ⌝ }
+    ensures { λ r. ⌜ r ≡ pastGate s n after ⌝ }
+{
+    State {
+        at: after,
+        events: s.events,
+        gates: s.gates + 1,
+        inputs: s.inputs,
+        left: n as usize,
+    }
+}
+
+// Past an input of the last gate.
+pub fn past_input(s: State, after: usize) -> State
+    requires { ⌜ Bounded s × (0 < s .left) ⌝ }
+    ensures { λ r. ⌜ r ≡ pastInput s after ⌝ }
+{
+    State {
+        at: after,
+        events: s.events,
+        gates: s.gates,
+        inputs: s.inputs + 1,
+        left: s.left - 1,
     }
 }
 

@@ -10,20 +10,22 @@ use judge::State;
 use judge::Step;
 use judge::begin;
 use judge::next;
+use judge::past_event;
+use judge::past_gate;
+use judge::past_input;
 use paper::EVENTS;
 use paper::GATES;
 use paper::IN_ALL;
 use survey::survey;
 use uses::Found;
-use uses::unused;
-
+use uses::unused_in;
 ghost use mathlib.Core.Path.{_≡_};
 ghost use Rattle.paper.specs.Limits.{limits};
 ghost use Rattle.records.specs.Answers.{isDone, verdict};
 ghost use Rattle.records.specs.Judge.{start, refuse, outcome, judge};
 ghost use Rattle.records.specs.Memory.{memory, inMemory};
 ghost use Rattle.records.specs.Bytes.{writeOf, wrote};
-ghost use Rattle.records.specs.Inner.{Ready, Seeks, Closes};
+ghost use Rattle.records.specs.Inner.{Ready, Closes};
 
 // The input that stands for gate 0: an event's input is its number, and a gate's is its number with this added.
 pub const GATES_FROM: u16 = 256;
@@ -95,29 +97,14 @@ fn refused(answer: Answer) -> Reading
     Reading { answer, tree }
 }
 
-// The place of an item that no gate of t has as an input.
-fn unused_in(t: Tree, places: [usize; GATES], s: State) -> Found
-    requires { ⌜ Ready t places s ⌝ }
-    ensures { λ r. ⌜ Seeks t places s r ⌝ }
-{
-    let gates = s.gates;
-    let count = s.inputs;
-    let sizes = t.sizes;
-    let inputs = t.inputs;
-    unused(
-        s.events,
-        &sizes[..gates],
-        &places[..gates],
-        &inputs[..count],
-    )
-}
-
 // The end record is read: number 8 is judged.
 fn finish(t: Tree, places: [usize; GATES], s: State) -> Reading
-    requires { ⌜ Ready t places s ⌝ }
+    requires { ⌜ Ready (t .sizes) places (t .inputs) s ⌝ }
     ensures { λ r. ⌜ Closes t places s r ⌝ }
 {
-    match unused_in(t, places, s) {
+    let sizes = t.sizes;
+    let inputs = t.inputs;
+    match unused_in(sizes, places, inputs, s) {
         Found::At(place) => refused(Answer::Unused(place)),
         Found::Nothing => {
             let mut u = t;
@@ -147,23 +134,18 @@ pub fn read(bytes: &[u8]) -> Reading
             Step::AddEvent(chance, after) => {
                 let e = Event { chance };
                 t.events[n] = e;
-                s.events = n + 1;
-                s.at = after;
+                s = past_event(s, after);
             }
             Step::AddGate(kind, k, size, after) => {
                 t.kinds[g] = kind;
                 t.leasts[g] = k;
                 t.sizes[g] = size;
                 places[g] = s.at;
-                s.gates = g + 1;
-                s.left = size as usize;
-                s.at = after;
+                s = past_gate(s, size, after);
             }
             Step::AddInput(code, after) => {
                 t.inputs[i] = code;
-                s.inputs = i + 1;
-                s.left = s.left - 1;
-                s.at = after;
+                s = past_input(s, after);
             }
             Step::Close => return finish(t, places, s),
             Step::Refused(a) => return refused(a),

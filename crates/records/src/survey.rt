@@ -10,11 +10,15 @@ use crate::judge::State;
 use crate::judge::Step;
 use crate::judge::admit;
 use crate::judge::begin;
+use crate::judge::past_event;
+use crate::judge::past_gate;
+use crate::judge::past_input;
+use crate::unwritten;
 use crate::uses::Found;
+use crate::uses::unused_in;
 use paper::EVENTS;
 use paper::GATES;
 use paper::IN_ALL;
-
 ghost use mathlib.Core.Path.{_≡_};
 ghost use Prim.Native.Nat.{_<_};
 ghost use Rattle.records.specs.Bytes.{nextOf};
@@ -32,7 +36,16 @@ pub fn within(n: usize) -> usize
 
 // The record of a tree that comes next at s; behind its arrays, an event of chance 0 or a gate of no input. `chance` is that
 // of event s.events.
-pub fn tree_record<'a>(events: usize, gates: usize, chance: u32, kinds: &'a [u8; GATES], leasts: &'a [u8; GATES], sizes: &'a [u8; GATES], inputs: &'a [u16; IN_ALL], s: State) -> Record
+pub fn tree_record<'a>(
+    events: usize,
+    gates: usize,
+    chance: u32,
+    kinds: &'a [u8; GATES],
+    leasts: &'a [u8; GATES],
+    sizes: &'a [u8; GATES],
+    inputs: &'a [u16; IN_ALL],
+    s: State,
+) -> Record
     requires { ⌜ Bounded s ⌝ }
     ensures { λ r. ⌜ (r ≡ nextOf events gates chance (now (kinds .entry)) (now (leasts .entry)) (now (sizes .entry)) (now (inputs .entry)) s) × Own r ⌝ }
 {
@@ -76,11 +89,14 @@ fn surveyed(f: Found, bytes: usize) -> Written
 pub fn survey(t: Tree) -> Written
     ensures { λ r. ⌜ Surveyed t (r .answer) (r .bytes) ⌝ }
 {
+    let mut sizes = [0u8; GATES];
     let mut places = [0usize; GATES];
+    let mut inputs = [0u16; IN_ALL];
     let mut s = begin();
     loop {
         let at = s.at;
         let g = s.gates;
+        let i = s.inputs;
         let n = within(s.events);
         let e = t.events[n];
         let r = tree_record(
@@ -94,27 +110,18 @@ pub fn survey(t: Tree) -> Written
             s,
         );
         match admit(s, at + width(r), r) {
-            Step::AddEvent(_, after) => {
-                s.events = s.events + 1;
-                s.at = after;
-            }
-            Step::AddGate(_, _, n, after) => {
+            Step::AddEvent(_, after) => s = past_event(s, after),
+            Step::AddGate(_, _, size, after) => {
+                sizes[g] = size;
                 places[g] = at;
-                s.gates = g + 1;
-                s.left = n as usize;
-                s.at = after;
+                s = past_gate(s, size, after);
             }
-            Step::AddInput(_, after) => {
-                s.inputs = s.inputs + 1;
-                s.left = s.left - 1;
-                s.at = after;
+            Step::AddInput(code, after) => {
+                inputs[i] = code;
+                s = past_input(s, after);
             }
-            Step::Close => {
-                return surveyed(crate::unused_in(t, places, s), at + 1);
-            }
-            Step::Refused(answer) => {
-                return crate::unwritten(answer);
-            }
+            Step::Close => return surveyed(unused_in(sizes, places, inputs, s), at + 1),
+            Step::Refused(answer) => return unwritten(answer),
         }
     }
 }

@@ -1,13 +1,15 @@
 // The search for an item that is an input nowhere: the paper's number 8.
 use crate::GATES_FROM;
 use crate::format::length as length_of;
-
+use crate::judge::State;
+use paper::GATES;
+use paper::IN_ALL;
 ghost use mathlib.Core.Path.{_≡_};
 ghost use Prim.Native.Nat.{_+_, _≤_};
 ghost use lib.ListN.{length};
 ghost use Rattle.paper.specs.Lists.{sum};
 ghost use Rattle.records.specs.Uses.{among, lowestUnused, unusedOf};
-ghost use Rattle.records.specs.Inner.{Below, Complete};
+ghost use Rattle.records.specs.Inner.{Below, Complete, Ready, Seeks};
 
 // What a search for an unused item finds.
 pub enum Found {
@@ -56,7 +58,7 @@ fn missing<'a>(sizes: &'a [u8], inputs: &'a [u16], from: u16, count: usize) -> F
 }
 
 // The place of the lowest unused event, else of the lowest unused gate but the root.
-pub fn unused<'a>(events: usize, sizes: &'a [u8], places: &'a [usize], inputs: &'a [u16]) -> Found
+fn unused<'a>(events: usize, sizes: &'a [u8], places: &'a [usize], inputs: &'a [u16]) -> Found
     requires { ⌜ Complete events (now sizes) (now places) (now inputs) ⌝ }
     ensures { λ r. ⌜ r ≡ unusedOf events (now (sizes .entry)) (now (places .entry)) (now (inputs .entry)) ⌝ }
 {
@@ -70,4 +72,24 @@ pub fn unused<'a>(events: usize, sizes: &'a [u8], places: &'a [usize], inputs: &
         Found::At(g) => Found::At(places[g]),
         Found::Nothing => Found::Nothing,
     }
+}
+
+// The same, read off the fronts of arrays at the end record.
+pub fn unused_in(
+    sizes: [u8; GATES],
+    places: [usize; GATES],
+    inputs: [u16; IN_ALL],
+    s: State,
+) -> Found
+    requires { ⌜ Ready sizes places inputs s ⌝ }
+    ensures { λ r. ⌜ Seeks sizes places inputs s r ⌝ }
+{
+    let gates = s.gates;
+    let count = s.inputs;
+    unused(
+        s.events,
+        &sizes[..gates],
+        &places[..gates],
+        &inputs[..count],
+    )
 }
