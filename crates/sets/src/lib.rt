@@ -14,6 +14,9 @@ pub const WORDS: usize = paper::EVENTS / 64;
 
 pub const MOST: usize = 64 * WORDS;
 
+// No cut has more bytes.
+pub const LONGEST: usize = 2 * MOST + 1;
+
 // The place of the lowest set bit of a word that is not 0.
 fn low_bit(w: u64) -> usize
     requires { ⌜ 0 < w ⌝ }
