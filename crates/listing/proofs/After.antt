@@ -1,22 +1,20 @@
 -- The walk from the root along a set: what comes after the set.
 -- Assumes nothing.
 use mathlib.Core.Path.{_≡_, refl, sym, ap, ap₂, _∙_, subst, subst₂}
-use mathlib.Core.Bool.{Bool, true, false, true≢false}
+use mathlib.Core.Bool.{Bool, true, false}
 use mathlib.Core.Logic.{_⊎_, inl, inr}
-use mathlib.Core.List.{List, [], _∷_, _++_, map}
-use Prim.Native.Nat.{ℕ, zero, suc, _+_, _-_, _*_, _≤_, _<_}
-use native.Mathlib.Decide.{decLt}
+use mathlib.Core.List.{List, [], _++_, map}
+use Prim.Native.Nat.{ℕ, suc, _+_, _-_, _≤_, _<_}
 use native.Mathlib.Omega.{arith}
-use lib.ListN.{length, take, set}
+use lib.ListN.{take, set}
 use Rattle.paper.specs.Lists.{In, keep}
 use Rattle.paper.specs.Sets.{Set, none, put}
 use Rattle.paper.specs.Cuts.{setsOf}
 use Rattle.paper.specs.Order.{behind, rest}
-use Rattle.paper.specs.Diagrams.{Ordered}
 use Rattle.algebra.proofs.Base.{put-same, put-other}
 use Rattle.algebra.proofs.Lists.{in-append, map-in, keep-same, keep-all, keep-none, keep-append, keep-map}
 use Rattle.algebra.proofs.Without.{sets-above}
-use Rattle.sets.specs.Words.{words, setOf, room, Lowest}
+use Rattle.sets.specs.Words.{setOf, Lowest}
 use Rattle.tables.specs.Table.{eventOf, failedOf, soundOf, den}
 use Rattle.listing.specs.Paths.{around, Open, Spotted, Reached}
 use Rattle.listing.specs.Answers.{toList}

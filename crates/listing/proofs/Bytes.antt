@@ -1,7 +1,7 @@
 -- The bytes of a path's cut, written and read back; and the set of a path in words.
 -- Assumes nothing.
 use mathlib.Core.Path.{_≡_, refl, sym, ap, ap₂, _∙_, subst}
-use mathlib.Core.Bool.{Bool, true, false, cond}
+use mathlib.Core.Bool.{Bool, true, false}
 use mathlib.Core.List.{List, [], _∷_, _++_, map, append-assoc, append-nil}
 use Prim.Native.Nat.{ℕ, zero, suc, _+_, _-_, _*_, _≤_, _<_}
 use native.Mathlib.Decide.{ℕ-discrete}
@@ -10,15 +10,14 @@ use native.Mathlib.Numerals.{add-one}
 use native.Mathlib.Omega.{arith}
 use lib.Dec.{leb}
 use lib.ListN.{length, getD, take, drop, set, replicate, length-append, length-map, length-drop, length-take, drop-of-length-le}
-use lib.Seq.{take-suc, take-all, set-at, drop-cons, drop-drop, length-take-le, getD-take, getD-append-add}
+use lib.Seq.{take-suc, take-all, set-at, drop-cons, drop-drop, length-take-le, getD-append-add}
 use borrow.Rule.Slice.PartMut.{putMid, midOf, postOf}
 use borrow.Author.Tests.{leb-true, leb-false}
 use Rattle.paper.specs.Limits.{limits}
 use Rattle.paper.specs.Lists.{keep, upTo}
-use Rattle.paper.specs.Sets.{Set, none, put, members}
+use Rattle.paper.specs.Sets.{Set, put, members}
 use Rattle.paper.specs.Listing.{memberBytes, cutBytes, setBytes}
 use Rattle.algebra.proofs.Base.{put-same, put-other}
-use Rattle.algebra.proofs.Lists.{keep-none}
 use Rattle.sets.specs.Words.{words, setOf, room}
 use Rattle.sets.proofs.Words.{empty-none}
 use Rattle.sets.proofs.Count.{count-le, members-length, cut-length}
@@ -80,7 +79,7 @@ module _ {n : ℕ} {T : List ℕ} {c : ℕ} {P : List ℕ} {d at : ℕ} (o : Ope
   pub path-bytes : (k : ℕ) → n ≤ k → setBytes k (along T (take d P)) ≡ cutBytes (eventsOf T (take d P))
   path-bytes k h = ap cutBytes (path-members k h)
 
-  events-length : length (eventsOf T (take d P)) ≡ d
+  pub events-length : length (eventsOf T (take d P)) ≡ d
   events-length = length-map (take d P) (eventOf T) ∙ path-length o
 
   pub path-size : length (setBytes n (along T (take d P))) ≡ 2 * d + 1

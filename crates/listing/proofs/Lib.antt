@@ -4,3 +4,5 @@ pub mod Steps
 pub mod Behind
 pub mod After
 pub mod Bytes
+pub mod Calls
+pub mod Answers

@@ -1,13 +1,13 @@
 -- Paths, one node longer or shorter.
 -- Assumes nothing.
-use mathlib.Core.Path.{_≡_, refl, sym, ap, ap₂, _∙_, subst}
-use mathlib.Core.Bool.{Bool, true, false}
+use mathlib.Core.Path.{_≡_, refl, sym, ap, _∙_, subst}
+use mathlib.Core.Bool.{true}
 use mathlib.Core.List.{List, [], _∷_, _++_, map}
 use Prim.Native.Nat.{ℕ, zero, suc, _+_, _-_, _*_, _≤_, _<_}
 use native.Mathlib.Numerals.{add-one}
 use native.Mathlib.Omega.{arith}
-use lib.ListN.{length, getD, set, take, length-set, length-append}
-use lib.Seq.{take-suc-set, take-suc, length-take-le, getD-take}
+use lib.ListN.{length, getD, set, take, length-set}
+use lib.Seq.{take-suc-set, length-take-le, getD-take}
 use Rattle.paper.specs.Limits.{limits, mostNumbers}
 use Rattle.paper.specs.Sets.{Set, none, put}
 use Rattle.paper.specs.Diagrams.{Ordered}
@@ -17,7 +17,7 @@ use Rattle.tables.specs.Table.{eventOf, failedOf, soundOf, den}
 use Rattle.tables.specs.Lent.{Lent, Node}
 use Rattle.tables.proofs.Den.{den-0, den-1, den-node}
 use Rattle.tables.proofs.Lent.{lent-node, lent-lower, lent-ordered}
-use Rattle.listing.specs.Paths.{ofEvents, eventsOf, along, around, Climbs, Open, leftOf, Spotted, Reached}
+use Rattle.listing.specs.Paths.{ofEvents, along, around, Climbs, Open}
 
 -- ---- the sets left at a path
 

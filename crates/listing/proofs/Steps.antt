@@ -5,15 +5,15 @@ use mathlib.Core.Bool.{Bool, true, false}
 use mathlib.Core.List.{List, [], _∷_, _++_}
 use Prim.Native.Nat.{ℕ, suc, _+_, _-_, _≤_, _<_}
 use native.Mathlib.Omega.{arith}
-use lib.ListN.{length, getD, set, take}
+use lib.ListN.{getD, set, take}
 use lib.Seq.{take-suc}
-use Rattle.paper.specs.Sets.{Set, none}
+use Rattle.paper.specs.Sets.{Set}
 use Rattle.paper.specs.Cuts.{setsOf}
 use Rattle.tables.specs.Table.{eventOf, failedOf, soundOf, den}
-use Rattle.tables.specs.Lent.{Lent, Node}
+use Rattle.tables.specs.Lent.{Node}
 use Rattle.tables.proofs.Lent.{lent-node}
 use Rattle.listing.specs.Paths.{around, Climbs, Open, Spotted, Reached}
-use Rattle.listing.proofs.Paths.{around-snoc, around-none, climbs-last, depth-low, rooted, sets-0, sets-1, sets-node, open-leaf, open-none, open-push, around-push, here}
+use Rattle.listing.proofs.Paths.{around-snoc, around-none, climbs-last, rooted, sets-0, sets-1, sets-node, open-leaf, open-none, open-push, around-push, here}
 
 -- ---- down
 

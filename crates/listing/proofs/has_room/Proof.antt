@@ -1,20 +1,8 @@
 -- `listing::has_room` meets its contract. Assumes nothing.
 use borrow.Author.Needs.{needs}
-use native.Mathlib.Omega.{arith}
-use mathlib.Core.Path.{_≡_, refl, sym, ap, _∙_, subst}
-use mathlib.Core.Bool.{Bool, true, false}
-use mathlib.Core.List.{List, []}
-use Prim.Native.Nat.{ℕ, _+_, _*_, _-_, _≤_, _<_}
-use lib.ListN.{length, take, length-set}
-use borrow.Author.Tests.{leb-true, leb-false}
-use Rattle.tables.specs.Flags.{Says}
 use Rattle.listing.proofs.Bytes.{fits-any, fits-size, says-fits}
 use Rattle.listing.proofs.has_room.Statement.{statement}
 use Rattle.listing.proofs.has_room.Tie as tie
-use Rattle.listing.proofs.has_room.Reads as reads
-use Rattle.listing.proofs.has_room.Lts as lts
-use Rattle.listing.proofs.set_of.Reads as set-of-reads
-use Rattle.sets.proofs.cut_len.Reads as cut-len-reads
 
 returns : tie.Need-returns
 returns c = fits-any (c .before .before .before .pre) (c .before .before .before .args .left) (c .if1 .taken)

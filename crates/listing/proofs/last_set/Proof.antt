@@ -1,16 +1,8 @@
 -- `listing::last_set` meets its contract. Assumes nothing.
-use borrow.Author.Needs.{needs}
 use native.Mathlib.Omega.{arith}
-use mathlib.Core.Path.{_≡_, refl, sym, ap, _∙_, subst}
-use mathlib.Core.Bool.{Bool, true, false}
-use mathlib.Core.List.{List, []}
-use Prim.Native.Nat.{ℕ, _+_, _*_, _-_, _≤_, _<_}
-use lib.ListN.{length, take, length-set}
+use mathlib.Core.Path.{refl}
 use Rattle.listing.proofs.last_set.Statement.{statement}
 use Rattle.listing.proofs.last_set.Tie as tie
-use Rattle.listing.proofs.last_set.Reads as reads
-use Rattle.listing.proofs.last_set.Lts as lts
-use Rattle.listing.proofs.read_back.Reads as read-back-reads
 
 returns : tie.Need-returns
 returns c = (λ h. refl, λ h. absurd (omega arith))

@@ -1,21 +1,12 @@
 -- `listing::put_next` meets its contract. Assumes nothing.
 use borrow.Author.Needs.{needs}
-use native.Mathlib.Omega.{arith}
-use mathlib.Core.Path.{_≡_, refl, sym, ap, _∙_, subst}
-use mathlib.Core.Bool.{Bool, true, false}
-use mathlib.Core.List.{List, []}
-use Prim.Native.Nat.{ℕ, _+_, _*_, _-_, _≤_, _<_}
-use lib.ListN.{length, take, length-set}
+use lib.ListN.{take}
 use Rattle.listing.specs.Paths.{along}
 use borrow.Author.Tests.{not-true, not-false}
 use Rattle.tables.proofs.Flags.{says-true, says-false}
 use Rattle.listing.proofs.Bytes.{place-short, lent-part, place-done}
 use Rattle.listing.proofs.put_next.Statement.{statement}
 use Rattle.listing.proofs.put_next.Tie as tie
-use Rattle.listing.proofs.put_next.Reads as reads
-use Rattle.listing.proofs.put_next.Lts as lts
-use Rattle.listing.proofs.has_room.Reads as has-room-reads
-use Rattle.listing.proofs.write_cut.Reads as write-cut-reads
 
 sub-has-room : tie.Need-sub-has-room
 sub-has-room c = search needs

@@ -1,19 +1,11 @@
 -- `listing::read_back` meets its contract. Assumes nothing.
 use borrow.Author.Needs.{needs}
 use native.Mathlib.Omega.{arith}
-use mathlib.Core.Path.{_≡_, refl, sym, ap, _∙_, subst}
-use mathlib.Core.Bool.{Bool, true, false}
-use mathlib.Core.List.{List, []}
-use Prim.Native.Nat.{ℕ, _+_, _*_, _-_, _≤_, _<_}
-use lib.ListN.{length, take, length-set}
+use mathlib.Core.Path.{sym}
+use Prim.Native.Nat.{_+_, _*_, _-_}
 use Rattle.listing.proofs.Bytes.{Read, read-none, read-more, read-end}
 use Rattle.listing.proofs.read_back.Statement.{statement}
 use Rattle.listing.proofs.read_back.Tie as tie
-use Rattle.listing.proofs.read_back.Reads as reads
-use Rattle.listing.proofs.read_back.Lts as lts
-use Rattle.listing.proofs.small.Reads as small-reads
-use Rattle.sets.proofs.add.Reads as add-reads
-use Rattle.sets.proofs.empty.Reads as empty-reads
 
 abbrev Inv-loop : tie.InvT-loop
 Inv-loop room from size out₀ k₀ out k = Read room from size k out

@@ -1,21 +1,13 @@
 -- `listing::set_of` meets its contract. Assumes nothing.
 use borrow.Author.Needs.{needs}
 use native.Mathlib.Omega.{arith}
-use mathlib.Core.Path.{_≡_, refl, sym, ap, _∙_, subst}
-use mathlib.Core.Bool.{Bool, true, false}
-use mathlib.Core.List.{List, []}
-use Prim.Native.Nat.{ℕ, _+_, _*_, _-_, _≤_, _<_}
-use lib.ListN.{length, take, length-set}
+use mathlib.Core.Path.{sym}
+use Prim.Native.Nat.{_-_}
+use lib.ListN.{take}
 use Rattle.listing.proofs.Paths.{path-length, fits-entry, entry}
 use Rattle.listing.proofs.Bytes.{Gathered, gather-none, gather-more, gather-end}
 use Rattle.listing.proofs.set_of.Statement.{statement}
 use Rattle.listing.proofs.set_of.Tie as tie
-use Rattle.listing.proofs.set_of.Reads as reads
-use Rattle.listing.proofs.set_of.Lts as lts
-use Rattle.listing.proofs.walk.wide.Reads as wide-reads
-use Rattle.sets.proofs.add.Reads as add-reads
-use Rattle.sets.proofs.empty.Reads as empty-reads
-use Rattle.tables.proofs.event_of.Reads as event-of-reads
 
 abbrev Inv-loop : tie.InvT-loop
 Inv-loop nodes n count path depth out₀ k₀ out k = Gathered nodes (take depth path) k out

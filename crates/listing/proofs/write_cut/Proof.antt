@@ -1,19 +1,12 @@
 -- `listing::write_cut` meets its contract. Assumes nothing.
 use borrow.Author.Needs.{needs}
 use native.Mathlib.Omega.{arith}
-use mathlib.Core.Path.{_≡_, refl, sym, ap, _∙_, subst}
-use mathlib.Core.Bool.{Bool, true, false}
-use mathlib.Core.List.{List, []}
-use Prim.Native.Nat.{ℕ, _+_, _*_, _-_, _≤_, _<_}
-use lib.ListN.{length, take, length-set}
+use Prim.Native.Nat.{_-_}
+use lib.ListN.{length-set}
 use Rattle.listing.proofs.Paths.{fits-entry}
 use Rattle.listing.proofs.Bytes.{Written, write-none, write-long, write-more, write-end}
 use Rattle.listing.proofs.write_cut.Statement.{statement}
 use Rattle.listing.proofs.write_cut.Tie as tie
-use Rattle.listing.proofs.write_cut.Reads as reads
-use Rattle.listing.proofs.write_cut.Lts as lts
-use Rattle.listing.proofs.walk.wide.Reads as wide-reads
-use Rattle.tables.proofs.event_of.Reads as event-of-reads
 
 abbrev Inv-loop : tie.InvT-loop
 Inv-loop nodes n count path depth room₀ k₀ room k = Written nodes path room₀ depth room k

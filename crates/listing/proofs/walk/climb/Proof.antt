@@ -1,20 +1,14 @@
 -- `listing::walk::climb` meets its contract. Assumes nothing.
 use borrow.Author.Needs.{needs}
 use native.Mathlib.Omega.{arith}
-use mathlib.Core.Path.{_≡_, refl, sym, ap, _∙_, subst}
-use mathlib.Core.Bool.{Bool, true, false}
-use mathlib.Core.List.{List, []}
-use Prim.Native.Nat.{ℕ, _+_, _*_, _-_, _≤_, _<_}
-use lib.ListN.{length, take, length-set}
+use mathlib.Core.List.{[]}
+use Prim.Native.Nat.{_-_}
+use lib.ListN.{take}
 use Rattle.listing.specs.Paths.{around}
 use Rattle.listing.proofs.Paths.{fits-entry}
 use Rattle.listing.proofs.Steps.{Behind, up-start, up-end, up-found, up-more}
 use Rattle.listing.proofs.walk.climb.Statement.{statement}
 use Rattle.listing.proofs.walk.climb.Tie as tie
-use Rattle.listing.proofs.walk.climb.Reads as reads
-use Rattle.listing.proofs.walk.climb.Lts as lts
-use Rattle.listing.proofs.walk.wide.Reads as wide-reads
-use Rattle.tables.proofs.sound_of.Reads as sound-of-reads
 
 abbrev Inv-loop : tie.InvT-loop
 Inv-loop nodes n count path depth d₀ d = Behind n nodes count path d (around nodes (take depth path) [])

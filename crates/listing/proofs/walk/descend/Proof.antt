@@ -1,10 +1,7 @@
 -- `listing::walk::descend` meets its contract. Assumes nothing.
 use borrow.Author.Needs.{needs}
 use native.Mathlib.Omega.{arith}
-use mathlib.Core.Path.{_≡_, refl, sym, ap, _∙_, subst}
-use mathlib.Core.Bool.{Bool, true, false}
-use mathlib.Core.List.{List, []}
-use Prim.Native.Nat.{ℕ, _+_, _*_, _-_, _≤_, _<_}
+use mathlib.Core.Path.{_≡_, refl}
 use lib.ListN.{length, take, length-set}
 use Rattle.paper.specs.Cuts.{setsOf}
 use Rattle.tables.specs.Table.{den}
@@ -13,9 +10,6 @@ use Rattle.listing.proofs.Paths.{room-for, fits-at}
 use Rattle.listing.proofs.Steps.{Down, down-start, down-less, down-more, down-end}
 use Rattle.listing.proofs.walk.descend.Statement.{statement}
 use Rattle.listing.proofs.walk.descend.Tie as tie
-use Rattle.listing.proofs.walk.descend.Reads as reads
-use Rattle.listing.proofs.walk.descend.Lts as lts
-use Rattle.tables.proofs.failed_of.Reads as failed-of-reads
 
 abbrev Inv-loop : tie.InvT-loop
 Inv-loop nodes n count path₀ depth at d₀ i₀ path d i = Down n nodes count path d i (around nodes (take depth path₀) (setsOf (den nodes at))) × (length path ≡ length path₀)

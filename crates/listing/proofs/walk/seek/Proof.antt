@@ -1,26 +1,16 @@
 -- `listing::walk::seek` meets its contract. Assumes nothing.
 use borrow.Author.Needs.{needs}
 use native.Mathlib.Omega.{arith}
-use mathlib.Core.Path.{_≡_, refl, sym, ap, _∙_, subst}
-use mathlib.Core.Bool.{Bool, true, false}
-use mathlib.Core.List.{List, []}
-use Prim.Native.Nat.{ℕ, _+_, _*_, _-_, _≤_, _<_}
-use lib.ListN.{length, take, length-set}
+use mathlib.Core.Path.{_≡_, refl}
+use lib.ListN.{length, length-set}
 use Rattle.paper.specs.Order.{rest}
 use Rattle.paper.specs.Cuts.{setsOf}
-use Rattle.sets.specs.Words.{words, room, setOf}
+use Rattle.sets.specs.Words.{setOf}
 use Rattle.tables.specs.Table.{den}
 use Rattle.listing.proofs.Paths.{room-for, fits-at, open-leaf, wide-enough}
 use Rattle.listing.proofs.After.{At, walk-start, turn, stop-one, stop-end, stop-zero, spotted-as}
 use Rattle.listing.proofs.walk.seek.Statement.{statement}
 use Rattle.listing.proofs.walk.seek.Tie as tie
-use Rattle.listing.proofs.walk.seek.Reads as reads
-use Rattle.listing.proofs.walk.seek.Lts as lts
-use Rattle.listing.proofs.walk.climb.Reads as climb-reads
-use Rattle.sets.proofs.lowest.Reads as lowest-reads
-use Rattle.tables.proofs.event_of.Reads as event-of-reads
-use Rattle.tables.proofs.failed_of.Reads as failed-of-reads
-use Rattle.tables.proofs.sound_of.Reads as sound-of-reads
 
 abbrev Inv-loop : tie.InvT-loop
 Inv-loop nodes n count root s path₀ at₀ i₀ d₀ path at i d = At n nodes count (setOf s) path d at i (rest n (setOf s) (setsOf (den nodes root))) × (length path ≡ length path₀)

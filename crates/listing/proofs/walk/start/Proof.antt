@@ -1,18 +1,8 @@
 -- `listing::walk::start` meets its contract. Assumes nothing.
 use borrow.Author.Needs.{needs}
-use native.Mathlib.Omega.{arith}
-use mathlib.Core.Path.{_≡_, refl, sym, ap, _∙_, subst}
-use mathlib.Core.Bool.{Bool, true, false}
-use mathlib.Core.List.{List, []}
-use Prim.Native.Nat.{ℕ, _+_, _*_, _-_, _≤_, _<_}
-use lib.ListN.{length, take, length-set}
 use Rattle.listing.proofs.After.{start-all, start-after}
 use Rattle.listing.proofs.walk.start.Statement.{statement}
 use Rattle.listing.proofs.walk.start.Tie as tie
-use Rattle.listing.proofs.walk.start.Reads as reads
-use Rattle.listing.proofs.walk.start.Lts as lts
-use Rattle.listing.proofs.walk.land.Reads as land-reads
-use Rattle.listing.proofs.walk.next_after.Reads as next-after-reads
 
 land-requires : tie.Need-land-requires
 land-requires c κs = search needs
