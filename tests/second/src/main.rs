@@ -1,0 +1,114 @@
+//! The command line of the second program.
+
+use second::analysis::{analyse, Lengths};
+use second::bracket::{bracket, events_reached};
+use second::equations::tree_of;
+use second::judge::{read, write, Refusal};
+use second::program::{program, report};
+use std::io::{self, Read, Write};
+use std::process::exit;
+
+const USAGE: &str = "second judge FILE              accepted, or refused with number and place
+second analyse FILE [NODES [CUTS]]  the program's report; capacities in nodes, else as large as allowed
+second counts FILE             counts only, without the list of cuts
+second program FILE            what the program of document 01 writes
+second equations FILE          the bytes of a tree written in equations
+second names FILE              the numbers that those equations' names get
+a FILE of - is the standard input";
+
+fn main() {
+    let words: Vec<String> = std::env::args().skip(1).collect();
+    if words.len() < 2 {
+        eprintln!("{USAGE}");
+        exit(2);
+    }
+    let bytes = contents(&words[1]);
+    let out = &mut io::BufWriter::new(io::stdout().lock());
+    let capacity = |at: usize| words.get(at).map_or(1_000_000, |word| word.parse().expect("a capacity"));
+    let done = match words[0].as_str() {
+        "judge" => judge(&bytes, out),
+        "analyse" => report(&bytes, Lengths::of_capacities(capacity(2), capacity(3)), true, out),
+        "counts" => counts(&bytes, out),
+        "program" => program(&bytes, out),
+        "equations" => equations(&bytes, out),
+        "names" => names(&bytes, out),
+        other => {
+            eprintln!("unknown: {other}\n{USAGE}");
+            exit(2);
+        }
+    };
+    // A closed pipe isn't worth a report.
+    let _ = done.and_then(|()| out.flush());
+}
+
+fn contents(file: &str) -> Vec<u8> {
+    let mut bytes = Vec::new();
+    let read = match file {
+        "-" => io::stdin().read_to_end(&mut bytes).map(|_| ()),
+        _ => std::fs::read(file).map(|read| bytes = read),
+    };
+    if let Err(fault) = read {
+        eprintln!("{file}: {fault}");
+        exit(2);
+    }
+    bytes
+}
+
+fn judge(bytes: &[u8], out: &mut dyn Write) -> io::Result<()> {
+    match read(bytes) {
+        Ok(tree) => writeln!(
+            out,
+            "accepted: {} events, {} gates, {} inputs",
+            tree.event_count,
+            tree.gate_count,
+            tree.inputs.len()
+        ),
+        Err(Refusal { number, place }) => writeln!(out, "refused {number} at {place}"),
+    }
+}
+
+fn counts(bytes: &[u8], out: &mut dyn Write) -> io::Result<()> {
+    let done = match analyse(bytes, Lengths::AMPLE) {
+        Ok(done) => done,
+        Err(Refusal { number, place }) => return writeln!(out, "refused {number} at {place}"),
+    };
+    let top = bracket(&done.lent_function(), &done.tree.chances, true);
+    writeln!(out, "bytes {}", bytes.len())?;
+    writeln!(out, "events {}", done.tree.event_count)?;
+    writeln!(out, "gates {}", done.tree.gate_count)?;
+    writeln!(out, "nodes {}", done.robdd.nodes.count())?;
+    writeln!(out, "root reaches {}", done.robdd.nodes.reached(done.robdd.root()).len())?;
+    writeln!(out, "cut nodes {}", done.cuts.nodes.count())?;
+    writeln!(out, "cut root reaches {}", done.cuts.nodes.reached(done.cuts.root).len())?;
+    writeln!(out, "cuts {}", done.cuts.cut_count().decimal())?;
+    writeln!(out, "L {}", events_reached(&done.lent_function()))?;
+    writeln!(out, "top {} {}", top.low, top.high)
+}
+
+fn named(bytes: &[u8]) -> second::equations::Named {
+    tree_of(&String::from_utf8_lossy(bytes)).unwrap_or_else(|fault| {
+        eprintln!("{fault}");
+        exit(2);
+    })
+}
+
+fn equations(bytes: &[u8], out: &mut dyn Write) -> io::Result<()> {
+    match write(&named(bytes).tree) {
+        Ok(bytes) => out.write_all(&bytes),
+        Err(Refusal { number, place }) => {
+            eprintln!("refused {number} at {place}");
+            exit(1);
+        }
+    }
+}
+
+fn names(bytes: &[u8], out: &mut dyn Write) -> io::Result<()> {
+    let named = named(bytes);
+    for (number, name) in named.event_names.iter().enumerate() {
+        writeln!(out, "event {number} {name} {}", named.tree.chances[number])?;
+    }
+    for (number, name) in named.gate_names.iter().enumerate() {
+        writeln!(out, "gate {number} {name}")?;
+    }
+    Ok(())
+}
