@@ -118,7 +118,9 @@ fn first_uses(random: &mut Random, events: usize, gates: usize, widest: usize) -
         let most = waiting.min(widest).max(1);
         let most = if later == 0 { waiting } else { most };
         // The later gates must be able to take the rest, and each but the root adds one to it.
-        let least = if later == 0 { waiting } else { (waiting + later).saturating_sub(later * widest) };
+        let must = if later == 0 { waiting } else { (waiting + later).saturating_sub(later * widest) };
+        // The first gate has only events, so it takes one for the first time.
+        let least = if gate == 0 { must.max(1) } else { must };
         let fair = (waiting + later).div_ceil(later + 1);
         let wish = random.between(0, 2 * fair);
         let taken = wish.clamp(least.min(most), most);
