@@ -2,6 +2,7 @@
 
 use second::analysis::{analyse, Lengths};
 use second::bracket::{bracket, events_reached};
+use second::city;
 use second::equations::tree_of;
 use second::judge::{read, write, Refusal};
 use second::program::{program, report};
@@ -14,6 +15,7 @@ second counts FILE             counts only, without the list of cuts
 second program FILE            what the program of document 01 writes
 second equations FILE          the bytes of a tree written in equations
 second names FILE              the numbers that those equations' names get
+second city small|middle|large the equations of a city-like tree
 a FILE of - is the standard input";
 
 fn main() {
@@ -22,8 +24,12 @@ fn main() {
         eprintln!("{USAGE}");
         exit(2);
     }
-    let bytes = contents(&words[1]);
     let out = &mut io::BufWriter::new(io::stdout().lock());
+    if words[0] == "city" {
+        let _ = city(&words[1], out).and_then(|()| out.flush());
+        return;
+    }
+    let bytes = contents(&words[1]);
     let capacity = |at: usize| words.get(at).map_or(1_000_000, |word| word.parse().expect("a capacity"));
     let done = match words[0].as_str() {
         "judge" => judge(&bytes, out),
@@ -83,6 +89,19 @@ fn counts(bytes: &[u8], out: &mut dyn Write) -> io::Result<()> {
     writeln!(out, "cuts {}", done.cuts.cut_count().decimal())?;
     writeln!(out, "L {}", events_reached(&done.lent_function()))?;
     writeln!(out, "top {} {}", top.low, top.high)
+}
+
+fn city(size: &str, out: &mut dyn Write) -> io::Result<()> {
+    let city = match size {
+        "small" => city::SMALL,
+        "middle" => city::MIDDLE,
+        "large" => city::LARGE,
+        _ => {
+            let n: Vec<usize> = size.split(',').map(|n| n.parse().expect("a number")).collect();
+            city::City { corridors: n[0], stations: n[1], blind: n[2], feeds: n[3], apart: n[4], lost: n[5] }
+        }
+    };
+    write!(out, "{}", city::equations(city))
 }
 
 fn named(bytes: &[u8]) -> second::equations::Named {
