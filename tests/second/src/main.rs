@@ -5,17 +5,22 @@ use second::bracket::{bracket, events_reached};
 use second::city;
 use second::equations::tree_of;
 use second::judge::{read, write, Refusal};
+use second::listing::list;
+use second::generator::{middle_shape, tree};
 use second::program::{program, report};
+use second::random::Random;
 use std::io::{self, Read, Write};
 use std::process::exit;
 
 const USAGE: &str = "second judge FILE              accepted, or refused with number and place
 second analyse FILE [NODES [CUTS]]  the program's report; capacities in nodes, else as large as allowed
 second counts FILE             counts only, without the list of cuts
+second plain FILE [ROOM MOST]  what bench/plain prints: cuts in rooms of ROOM bytes until MOST are written
 second program FILE            what the program of document 01 writes
 second equations FILE          the bytes of a tree written in equations
 second names FILE              the numbers that those equations' names get
 second city small|middle|large the equations of a city-like tree
+second random SEED             the bytes of a seeded tree of middle size
 a FILE of - is the standard input";
 
 fn main() {
@@ -29,12 +34,19 @@ fn main() {
         let _ = city(&words[1], out).and_then(|()| out.flush());
         return;
     }
+    if words[0] == "random" {
+        let random = &mut Random::new(number(&words[1]) as u64);
+        let shape = middle_shape(random);
+        let _ = out.write_all(&write(&tree(random, shape)).expect("a generated tree is accepted"));
+        return;
+    }
     let bytes = contents(&words[1]);
-    let capacity = |at: usize| words.get(at).map_or(1_000_000, |word| word.parse().expect("a capacity"));
+    let capacity = |at: usize| words.get(at).map_or(1_000_000, number);
     let done = match words[0].as_str() {
         "judge" => judge(&bytes, out),
         "analyse" => report(&bytes, Lengths::of_capacities(capacity(2), capacity(3)), true, out),
         "counts" => counts(&bytes, out),
+        "plain" => plain(&bytes, words.get(2).map_or(65_536, number), words.get(3).map_or(100_000, number), out),
         "program" => program(&bytes, out),
         "equations" => equations(&bytes, out),
         "names" => names(&bytes, out),
@@ -91,14 +103,43 @@ fn counts(bytes: &[u8], out: &mut dyn Write) -> io::Result<()> {
     writeln!(out, "top {} {}", top.low, top.high)
 }
 
+fn number(word: &String) -> usize {
+    word.parse().expect("a number")
+}
+
+/// The yardstick's output, so that the two can be compared line by line.
+fn plain(bytes: &[u8], room: usize, most: usize, out: &mut dyn Write) -> io::Result<()> {
+    let done = match analyse(bytes, Lengths::AMPLE) {
+        Ok(done) => done,
+        Err(Refusal { number, place }) => return writeln!(out, "refused {number} at {place}"),
+    };
+    writeln!(out, "events {}\ngates {}", done.tree.event_count, done.tree.gate_count)?;
+    writeln!(out, "nodes {}\ncut nodes {}", done.robdd.nodes.count(), done.cuts.nodes.count())?;
+    let diagram = done.lent_cuts();
+    let (mut written, mut used, mut sum, mut start) = (0, 0, 0u64, None);
+    let finished = loop {
+        let listing = list(&diagram, start, room);
+        written += listing.written;
+        used += listing.bytes.len();
+        sum = listing.bytes.iter().fold(sum, |sum, &byte| sum.wrapping_mul(31).wrapping_add(byte as u64));
+        start = Some(listing.last);
+        if listing.number != 0 || listing.finished || written >= most {
+            break listing.finished;
+        }
+    };
+    writeln!(out, "cuts {written} bytes {used} sum {sum:016x}{}", if finished { " finished" } else { "" })?;
+    let top = bracket(&done.lent_function(), &done.tree.chances, true);
+    writeln!(out, "top {} {}", top.low, top.high)
+}
+
 fn city(size: &str, out: &mut dyn Write) -> io::Result<()> {
     let city = match size {
         "small" => city::SMALL,
         "middle" => city::MIDDLE,
         "large" => city::LARGE,
         _ => {
-            let n: Vec<usize> = size.split(',').map(|n| n.parse().expect("a number")).collect();
-            city::City { corridors: n[0], stations: n[1], blind: n[2], feeds: n[3], apart: n[4], lost: n[5] }
+            eprintln!("{USAGE}");
+            exit(2);
         }
     };
     write!(out, "{}", city::equations(city))
