@@ -7,6 +7,21 @@
 
 #include "plain.c"
 
+/* Under callgrind (--collect-atstart=no) each entry point is counted by itself: call tracing can't be
+   trusted with recursion on every machine, sums can. */
+#if __has_include(<valgrind/callgrind.h>)
+#include <valgrind/callgrind.h>
+#else
+#define CALLGRIND_TOGGLE_COLLECT
+#define CALLGRIND_DUMP_STATS_AT(name)
+#endif
+#define COUNTED(what)             \
+    do {                          \
+        CALLGRIND_TOGGLE_COLLECT; \
+        what;                     \
+        CALLGRIND_TOGGLE_COLLECT; \
+    } while (0)
+
 static unsigned char bytes[16384];
 
 static void decode(const unsigned char *b, Tree *tree)
@@ -37,12 +52,13 @@ static void list_all(const Table *c, u32 events, u32 cut_root, u64 room_length, 
     u64 written = 0, used = 0, sum = 0, calls = 0;
     Listing l = {0};
     do {
-        l = list(c, events, cut_root, calls++ ? l.last : NULL, room, room_length);
+        COUNTED(l = list(c, events, cut_root, calls++ ? l.last : NULL, room, room_length));
         if (l.number) break;
         written += l.written;
         used += l.used;
         for (u64 i = 0; i < l.used; i++) sum = sum * 31 + room[i];
     } while (!l.finished && written < most);
+    CALLGRIND_DUMP_STATS_AT("list");
     printf("cuts %llu bytes %llu sum %016llx%s\n", (unsigned long long)written, (unsigned long long)used,
            (unsigned long long)sum, l.finished ? " finished" : "");
     free(room);
@@ -68,16 +84,20 @@ int main(int words, char **word)
     Memo m = {area(4 * (u64)places), places};
     u32 gate_nodes[MOST_GATES], cut_root = 0, top[2];
 
-    int number = build(&tree, &t, &m, gate_nodes);
+    int number;
+    COUNTED(number = build(&tree, &t, &m, gate_nodes));
+    CALLGRIND_DUMP_STATS_AT("build");
     u32 root = gate_nodes[tree.gates - 1];
-    if (!number) number = cuts(&t, root, &c, &m, marks, cuts_of, &cut_root);
+    if (!number) COUNTED(number = cuts(&t, root, &c, &m, marks, cuts_of, &cut_root));
+    CALLGRIND_DUMP_STATS_AT("cuts");
     if (number) {
         printf("refused %d at 0\n", number);
         return 0;
     }
     printf("events %u\ngates %u\nnodes %u\ncut nodes %u\n", tree.events, tree.gates, t.count, c.count);
     list_all(&c, tree.events, cut_root, room, most);
-    bracket(&t, tree.events, root, tree.chance, tree.events, marks, cuts_of, top);
+    COUNTED(bracket(&t, tree.events, root, tree.chance, tree.events, marks, cuts_of, top));
+    CALLGRIND_DUMP_STATS_AT("bracket");
     printf("top %u %u\n", top[0], top[1]);
 #ifdef PROBES
     printf("finds %llu links %llu questions %llu hits %llu\n", (unsigned long long)finds, (unsigned long long)links,
