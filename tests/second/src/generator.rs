@@ -39,7 +39,9 @@ pub fn small_shape(random: &mut Random) -> Shape {
 /// From a few events to some dozens; these have diagrams of up to some thousands of nodes.
 pub fn middle_shape(random: &mut Random) -> Shape {
     let reach = random.between(2, 12);
-    Shape { reach, ..shape(random.between(4, 40), random.between(3, 50), random.between(3, 9)) }
+    // Half of them use each item once only; otherwise inputs that come again absorb much of the tree.
+    let inputs = random.below(2);
+    Shape { reach, inputs, ..shape(random.between(4, 40), random.between(3, 50), random.between(3, 9)) }
 }
 
 /// Up to the limits; mostly too large for any table.
