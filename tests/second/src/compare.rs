@@ -71,7 +71,9 @@ pub fn compare_diagram(library: &dyn Library, diagram: &Lent, random: &mut Rando
 pub fn compare_reading(library: &dyn Library, bytes: &[u8], random: &mut Random, tally: &mut Tally) {
     tally.input = hex(bytes);
     let got = library.read(bytes);
-    match read(bytes) {
+    let expected = read(bytes);
+    tally.due("read", expected.as_ref().map_or_else(|refusal| refusal.number, |_| 0));
+    match expected {
         Ok(tree) => {
             tally.same("reading", &ReadAnswer { number: 0, place: 0, tree: tree.clone() }, &got);
             compare_writing(library, &tree, random, tally);
@@ -97,6 +99,7 @@ pub fn compare_writing(library: &dyn Library, tree: &Tree, random: &mut Random, 
             Ok(_) if room_length < length => WriteAnswer { number: 9, place: 0, used: 0 },
             Ok(_) => WriteAnswer { number: 0, place: 0, used: length as u64 },
         };
+        tally.due("write", expected.number);
         tally.same("writing", expected, got);
         tally.holds("guards of a written tree", room.guards_stand());
         match &written {
@@ -174,6 +177,7 @@ pub fn compare_analysis(library: &dyn Library, bytes: &[u8], random: &mut Random
     let need = analyse(bytes, Lengths::of_capacities(MOST_NODES, MOST_NODES));
     let (lengths, work_lengths) = lengths(library, &need, random);
     let expected = analyse(bytes, lengths);
+    tally.due("analyse", expected.as_ref().map_or_else(|refusal| refusal.number, |_| 0));
     let mut nodes = dirty(random, lengths.node_table);
     let mut cuts = dirty(random, lengths.cut_table);
     let mut gates = dirty(random, lengths.gate_list);

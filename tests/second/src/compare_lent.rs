@@ -56,6 +56,7 @@ fn one_listing(
         last: expected.last,
         finished: expected.finished,
     };
+    tally.due("list", answer.number);
     tally.same("listing", answer, got);
     tally.holds("guards of a listing", room.guards_stand());
     let whole = [&expected.bytes[..], &room.before()[used..]].concat();
@@ -106,6 +107,7 @@ pub fn compare_bracket(
         let expected = bracket(diagram, &chances, suffice);
         let got = library.bracket(diagram, &chances, areas.each_mut().map(Guarded::lend));
         let answer = BracketAnswer { number: expected.number, low: expected.low, high: expected.high };
+        tally.due("bracket", answer.number);
         tally.same("bracket", answer, got);
         tally.holds("guards of a bracket", areas.iter().all(Guarded::guards_stand));
         if answer.number == 0 {

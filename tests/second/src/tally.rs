@@ -1,5 +1,6 @@
 //! Counting comparisons; the first difference is kept as a case that can be repeated.
 
+use std::collections::BTreeMap;
 use std::fmt::Debug;
 
 #[derive(Default)]
@@ -7,6 +8,8 @@ pub struct Tally {
     pub passed: u64,
     pub failed: u64,
     pub first_difference: Option<String>,
+    /// How often each call was due to answer each number: what the inputs reach.
+    pub due: BTreeMap<(&'static str, u32), u64>,
     /// The input at hand, for the report.
     pub seed: u64,
     pub input: String,
@@ -16,6 +19,10 @@ impl Tally {
     pub fn begin(&mut self, seed: u64) {
         self.seed = seed;
         self.input.clear();
+    }
+
+    pub fn due(&mut self, call: &'static str, number: u32) {
+        *self.due.entry((call, number)).or_default() += 1;
     }
 
     /// One comparison.
@@ -34,6 +41,15 @@ impl Tally {
 
     pub fn holds(&mut self, what: &str, fact: bool) {
         self.same(what, true, fact);
+    }
+
+    /// One line for each call: the numbers due and how often.
+    pub fn reach(&self) -> String {
+        let mut lines: BTreeMap<&str, String> = BTreeMap::new();
+        for ((call, number), times) in &self.due {
+            *lines.entry(call).or_insert(format!("{call}:")) += &format!(" {number}:{times}");
+        }
+        lines.into_values().collect::<Vec<_>>().join("\n")
     }
 
     pub fn line(&self) -> String {

@@ -13,6 +13,7 @@ fn main() {
     for seed in first..first + inputs {
         compare_input(&Mirror, seed, &mut tally);
     }
+    println!("{}", tally.reach());
     if let Some(difference) = &tally.first_difference {
         println!("{difference}");
     }
