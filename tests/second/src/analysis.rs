@@ -19,13 +19,8 @@ pub struct Lengths {
 
 impl Lengths {
     /// Room for any tree of the documents' size.
-    pub const AMPLE: Lengths = Lengths {
-        node_table: MOST_NUMBERS,
-        cut_table: MOST_NUMBERS,
-        gate_list: 512,
-        memo: 0,
-        areas_suffice: true,
-    };
+    pub const AMPLE: Lengths =
+        Lengths { node_table: MOST_NUMBERS, cut_table: MOST_NUMBERS, gate_list: 512, memo: 0, areas_suffice: true };
 
     pub fn of_capacities(nodes: usize, cuts: usize) -> Lengths {
         Lengths { node_table: 3 * nodes, cut_table: 3 * cuts, ..Lengths::AMPLE }

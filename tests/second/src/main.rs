@@ -2,11 +2,13 @@
 
 use second::analysis::{analyse, Lengths};
 use second::bracket::{bracket, events_reached};
+use second::brute;
+use second::brute_cuts;
 use second::city;
 use second::equations::tree_of;
+use second::generator::{middle_shape, tree};
 use second::judge::{read, write, Refusal};
 use second::listing::list;
-use second::generator::{middle_shape, tree};
 use second::program::{program, report};
 use second::random::Random;
 use std::io::{self, Read, Write};
@@ -15,6 +17,7 @@ use std::process::exit;
 const USAGE: &str = "second judge FILE              accepted, or refused with number and place
 second analyse FILE [NODES [CUTS]]  the program's report; capacities in nodes, else as large as allowed
 second counts FILE             counts only, without the list of cuts
+second brute FILE              nodes by gate, cut nodes and cuts by truth tables; 12 events or so
 second plain FILE [ROOM MOST]  what bench/plain prints: cuts in rooms of ROOM bytes until MOST are written
 second program FILE            what the program of document 01 writes
 second equations FILE          the bytes of a tree written in equations
@@ -46,6 +49,7 @@ fn main() {
         "judge" => judge(&bytes, out),
         "analyse" => report(&bytes, Lengths::of_capacities(capacity(2), capacity(3)), true, out),
         "counts" => counts(&bytes, out),
+        "brute" => brute(&bytes, out),
         "plain" => plain(&bytes, words.get(2).map_or(65_536, number), words.get(3).map_or(100_000, number), out),
         "program" => program(&bytes, out),
         "equations" => equations(&bytes, out),
@@ -105,6 +109,24 @@ fn counts(bytes: &[u8], out: &mut dyn Write) -> io::Result<()> {
 
 fn number(word: &String) -> usize {
     word.parse().expect("a number")
+}
+
+/// The definitions themselves, without any diagram.
+fn brute(bytes: &[u8], out: &mut dyn Write) -> io::Result<()> {
+    let tree = match read(bytes) {
+        Ok(tree) if tree.events() <= 16 => tree,
+        Ok(_) => return writeln!(out, "too many events"),
+        Err(Refusal { number, place }) => return writeln!(out, "refused {number} at {place}"),
+    };
+    let functions = brute::functions(&tree);
+    let root = functions.of_gates.last().expect("a tree has a gate");
+    writeln!(out, "nodes by gate {:?}", functions.nodes_needed)?;
+    writeln!(out, "cut nodes {}", brute_cuts::cut_nodes_needed(root, tree.events()))?;
+    writeln!(out, "cuts")?;
+    for cut in brute_cuts::in_order(&brute_cuts::minimal_cuts(root)) {
+        writeln!(out, "{:?}", cut.members())?;
+    }
+    writeln!(out, "S {}", brute::exact_chance(root, &tree.chances).decimal())
 }
 
 /// The yardstick's output, so that the two can be compared line by line.

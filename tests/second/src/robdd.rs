@@ -184,11 +184,7 @@ impl Robdd {
         let (g_failed, g_sound) = self.branches(g, event);
         let failed = self.join(join, f_failed, g_failed)?;
         let sound = self.join(join, f_sound, g_sound)?;
-        let result = if failed == sound {
-            failed
-        } else {
-            self.nodes.find_or_add(Node { event, failed, sound })?
-        };
+        let result = if failed == sound { failed } else { self.nodes.find_or_add(Node { event, failed, sound })? };
         self.joined.insert(key, result);
         Ok(result)
     }

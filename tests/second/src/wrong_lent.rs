@@ -93,8 +93,7 @@ fn other_list(diagram: &Lent, after: Option<Set>, room: &mut [u8], by_size: bool
     if by_size {
         cuts.sort_by_key(|cut| cut.members().len());
     }
-    let mut answer =
-        ListAnswer { number: 0, written: 0, used: 0, last: after.unwrap_or(Set::EMPTY), finished: true };
+    let mut answer = ListAnswer { number: 0, written: 0, used: 0, last: after.unwrap_or(Set::EMPTY), finished: true };
     for cut in cuts {
         let bytes = cut.cut_bytes();
         let used = answer.used as usize;

@@ -3,8 +3,8 @@
 use second::analysis::{analyse, Analysis, Lengths};
 use second::big::Big;
 use second::bracket::{bracket, events_reached, exact_chance, keeps_promise};
-use second::european::{european_1, EQUATIONS};
 use second::equations::tree_of;
+use second::european::{european_1, EQUATIONS};
 use second::generator::{longest_shape, tree};
 use second::judge::{read, write, Refusal};
 use second::lent::{Lent, Sort};
@@ -122,10 +122,8 @@ fn european() {
 /// A lent function diagram of document 003; not monotone.
 #[test]
 fn node_vector() {
-    let triples =
-        [[4, 0, 1], [3, 2, 1], [3, 0, 1], [2, 3, 1], [2, 4, 3], [1, 4, 6], [1, 6, 5], [0, 7, 8]];
-    let diagram =
-        Lent { sort: Sort::Function, event_count: 5, table: triples.concat(), node_count: 8, root: 9 };
+    let triples = [[4, 0, 1], [3, 2, 1], [3, 0, 1], [2, 3, 1], [2, 4, 3], [1, 4, 6], [1, 6, 5], [0, 7, 8]];
+    let diagram = Lent { sort: Sort::Function, event_count: 5, table: triples.concat(), node_count: 8, root: 9 };
     for (chance, low, high) in [(500_000_000, 656_250_000, 656_250_000), (333_333_333, 864_197_531, 864_197_533)] {
         let chances = [chance; 5];
         let top = bracket(&diagram, &chances, true);
