@@ -137,9 +137,11 @@ fn out_of_place(random: &mut Random, mut all: Records) -> Damaged {
         }
     };
     if all[faulty][0] == 7 {
-        // A byte behind an early end changes nothing: missing inputs come first.
+        // Bytes behind an early end change nothing: missing inputs come first.
         let place = offset(&all, faulty);
-        return Damaged { bytes: all.concat(), expected: Refusal { number: 3, place } };
+        let mut bytes = all.concat();
+        bytes.extend((0..random.below(3)).map(|_| random.byte()));
+        return Damaged { bytes, expected: Refusal { number: 3, place } };
     }
     finish(random, 3, all, faulty)
 }

@@ -18,9 +18,11 @@ fn analysed(tree: &Tree) -> Analysis {
     analyse(&write(tree).unwrap(), Lengths::AMPLE).unwrap_or_else(|refusal| panic!("{refusal:?}"))
 }
 
+/// SEEDS in the environment asks for more than the usual number.
 #[test]
 fn trees() {
-    for seed in 0..4_000 {
+    let seeds = std::env::var("SEEDS").map_or(4_000, |seeds| seeds.parse().expect("a number"));
+    for seed in 0..seeds {
         let random = &mut Random::new(seed);
         let shape = small_shape(random);
         let tree = tree(random, shape);

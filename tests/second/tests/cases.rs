@@ -7,7 +7,7 @@ use second::listing::{list, Walk};
 use second::program::program;
 use second::sets::Set;
 use second::tree::*;
-use Input::{Event, Gate};
+use Input::Event;
 
 const TENTH: u32 = 100_000_000;
 
@@ -59,6 +59,13 @@ fn case_1_bytes_counts_listing() {
     program(&bytes, &mut text).unwrap();
     let expected = "events 3\ngates 3\nnodes 6\ncuts\n0 1\n1 2\ntop 19000000 19000000\n";
     assert_eq!(String::from_utf8(text).unwrap(), expected);
+}
+
+/// Document 000, 2.2: three of the eight assignments are solutions.
+#[test]
+fn case_1_assignments() {
+    let fails = |set: usize| second::brute::fails(&case_1(), &|event| set >> event & 1 == 1);
+    assert_eq!((0..8).filter(|&set| fails(set)).collect::<Vec<_>>(), [0b011, 0b110, 0b111]);
 }
 
 #[test]
@@ -190,9 +197,4 @@ fn lengths_come_after_the_tree_and_before_the_tables() {
         assert_eq!(analyse(&bytes[1..], bad).err(), Some(Refusal { number: 2, place: 0 }));
     }
     assert!(analyse(&bytes, Lengths { gate_list: 3, memo: 4, ..ample }).is_ok());
-    assert!(matches!(tree_root(&bytes), Gate(2)));
-}
-
-fn tree_root(bytes: &[u8]) -> Input {
-    Gate(read(bytes).unwrap().gate_count as u32 - 1)
 }

@@ -82,6 +82,21 @@ fn figure_9_e2(tree: &mut Tree) -> Input {
 }
 
 #[test]
+fn section_1_7_figure_9_first_half() {
+    // The events that only the second half has hang on a spare gate, for every event must be used.
+    let mut whole = Tree::of_chances(&[1; 16]);
+    let e1 = figure_9_e1(&mut whole);
+    let others: Vec<Input> = events([4, 7, 12, 15]).to_vec();
+    let spare = and(&mut whole, &others);
+    or(&mut whole, &[e1, spare]);
+    let found = cuts(&analysed(&whole));
+    assert_eq!(found.len(), 8 + 1);
+    for cut in [&[2, 5][..], &[3, 6, 10], &[10, 16], &[2, 3], &[3, 6, 14], &[5, 10, 11], &[8, 9, 13], &[1, 6]] {
+        assert!(found.contains(&cut.to_vec()));
+    }
+}
+
+#[test]
 fn section_1_7_figure_9() {
     let mut tree = Tree::of_chances(&[1; 16]);
     let e1 = figure_9_e1(&mut tree);
@@ -165,6 +180,24 @@ fn section_6_2_standby() {
     assert_eq!(counts(&done), (38, 16));
 }
 
+/// F023 open, over events 11 to 20 of the document or over those numbered from `first`.
+fn a10(tree: &mut Tree, first: u32) -> Input {
+    let event = |number: u32| event(number - 11 + first);
+    let a16 = or(tree, &[event(14), event(15)]);
+    let a15 = and(tree, &[a16, event(16)]);
+    let a14 = or(tree, &[a15, event(17), event(19), event(20)]);
+    let a18 = and(tree, &[a14, event(18)]);
+    let inner = or(tree, &[event(12), event(13), a18]);
+    and(tree, &[event(11), inner])
+}
+
+#[test]
+fn section_6_3_f023_open() {
+    let mut tree = Tree::of_chances(&[1; 10]);
+    a10(&mut tree, 1);
+    assert_eq!(cuts(&analysed(&tree)).len(), 7);
+}
+
 #[test]
 fn section_6_3_heat_removal() {
     let mut tree = Tree::of_chances(&[1; 21]);
@@ -175,12 +208,7 @@ fn section_6_3_heat_removal() {
     let a4 = and(&mut tree, &[g3456, event(7)]);
     let a8 = and(&mut tree, &events([7, 8]));
     let middle = or(&mut tree, &[a4, a8, event(9), event(10)]);
-    let a16 = or(&mut tree, &events([14, 15]));
-    let a15 = and(&mut tree, &[a16, event(16)]);
-    let a14 = or(&mut tree, &[a15, event(17), event(19), event(20)]);
-    let a18 = and(&mut tree, &[a14, event(18)]);
-    let inner = or(&mut tree, &[event(12), event(13), a18]);
-    let a10 = and(&mut tree, &[event(11), inner]);
+    let a10 = a10(&mut tree, 11);
     let last = or(&mut tree, &[a10, event(21)]);
     and(&mut tree, &[a2, middle, last]);
     let done = analysed(&tree);
