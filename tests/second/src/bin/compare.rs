@@ -13,6 +13,7 @@ fn main() {
     for seed in first..first + inputs {
         compare_input(&Mirror, seed, &mut tally);
     }
+    println!("no library is linked: the second program is compared with itself, which tries only the loop");
     println!("{}", tally.reach());
     if let Some(difference) = &tally.first_difference {
         println!("{difference}");
