@@ -1,5 +1,4 @@
 -- The paper's number and place for each case of an answer.
-use mathlib.Core.Bool.{Bool, true, false}
 use Rattle.paper.specs.Answers.{Verdict}
 use Rattle.records.specs.declared.Answer.{Answer}
 use Rattle.records.specs.declared.Answer.the-variants.{Done, Cut, UnknownKind, OutOfPlace, Count, Threshold, Reference, Chance, Unused, Room}
@@ -15,15 +14,3 @@ verdict (Reference p) = record { number = 6; place = p }
 verdict (Chance p) = record { number = 7; place = p }
 verdict (Unused p) = record { number = 8; place = p }
 verdict Room = record { number = 9; place = 0 }
-
-abbrev pub isDone : Answer → Bool
-isDone Done = true
-isDone (Cut p) = false
-isDone (UnknownKind p) = false
-isDone (OutOfPlace p) = false
-isDone (Count p) = false
-isDone (Threshold p) = false
-isDone (Reference p) = false
-isDone (Chance p) = false
-isDone (Unused p) = false
-isDone Room = false

@@ -21,7 +21,7 @@ use uses::Found;
 use uses::unused_in;
 ghost use mathlib.Core.Path.{_≡_};
 ghost use Rattle.paper.specs.Limits.{limits};
-ghost use Rattle.records.specs.Answers.{isDone, verdict};
+ghost use Rattle.records.specs.Answers.{verdict};
 ghost use Rattle.records.specs.Judge.{start, refuse, outcome, judge};
 ghost use Rattle.records.specs.Memory.{memory, inMemory};
 ghost use Rattle.records.specs.Bytes.{writeOf, wrote};
@@ -153,20 +153,38 @@ pub fn read(bytes: &[u8]) -> Reading
     }
 }
 
-fn is_done(a: Answer) -> bool
-    ensures { λ r. ⌜ r ≡ isDone a ⌝ }
+// The paper's number and place of an answer.
+pub fn number(a: Answer) -> u8
+    ensures { λ r. ⌜ r ≡ verdict a .number ⌝ }
 {
     match a {
-        Answer::Done => true,
-        Answer::Cut(_) => false,
-        Answer::UnknownKind(_) => false,
-        Answer::OutOfPlace(_) => false,
-        Answer::Count(_) => false,
-        Answer::Threshold(_) => false,
-        Answer::Reference(_) => false,
-        Answer::Chance(_) => false,
-        Answer::Unused(_) => false,
-        Answer::Room => false,
+        Answer::Done => 0,
+        Answer::Cut(_) => 1,
+        Answer::UnknownKind(_) => 2,
+        Answer::OutOfPlace(_) => 3,
+        Answer::Count(_) => 4,
+        Answer::Threshold(_) => 5,
+        Answer::Reference(_) => 6,
+        Answer::Chance(_) => 7,
+        Answer::Unused(_) => 8,
+        Answer::Room => 9,
+    }
+}
+
+pub fn place(a: Answer) -> usize
+    ensures { λ r. ⌜ r ≡ verdict a .place ⌝ }
+{
+    match a {
+        Answer::Done => 0,
+        Answer::Cut(p) => p,
+        Answer::UnknownKind(p) => p,
+        Answer::OutOfPlace(p) => p,
+        Answer::Count(p) => p,
+        Answer::Threshold(p) => p,
+        Answer::Reference(p) => p,
+        Answer::Chance(p) => p,
+        Answer::Unused(p) => p,
+        Answer::Room => 0,
     }
 }
 
@@ -184,7 +202,7 @@ pub fn write(t: Tree, room: &mut [u8]) -> Written
     let v = survey(t);
     let a = v.answer;
     let n = v.bytes;
-    if is_done(a) {
+    if number(a) == 0 {
         if room.len() < n {
             return unwritten(Answer::Room);
         }
