@@ -97,13 +97,17 @@ module _ (n : ℕ) (d : Diagram) (o : Ordered 0 n d) (begin : Bool) (ws : List �
       let hi : (i : ℕ) → n ≤ i → L i ≡ false = sets-beyond 0 n d L o in-it in
       record { hi = hi; is = ap (rest n L) there ∙ rest-after n L hi (p .0 ++ s .0) q (subst Sorted there (sets-sorted n 0 d o)) }
 
--- finished, where nothing is left, says that no set comes after the last
-pub end-of : {n : ℕ} {d : Diagram} {L : Set} {q : List Set} {finished : Bool} → Left n d L q → (finished ≡ true → q ≡ []) × (q ≡ [] → finished ≡ true) → (finished ≡ true) ↔ NoneAfter d L
-end-of {n} {d} {L} {q} l e = ((λ t. none-after n d L (l .hi) (l .is ∙ e .0 t)), λ none. e .1 (go q refl none))
-  where
-    go : (x : List Set) → q ≡ x → NoneAfter d L → q ≡ []
-    go [] z none = z
-    go (T ∷ r) z none = absurd (some-after n d L (l .hi) (l .is ∙ z) none)
+-- nothing is left exactly if no set comes after
+module _ {n : ℕ} {d : Diagram} {L : Set} {q : List Set} (l : Left n d L q) where
+  pub some-left : q ≡ [] → NoneAfter d L
+  some-left z = none-after n d L (l .hi) (l .is ∙ z)
+
+  pub none-left : NoneAfter d L → q ≡ []
+  none-left none = go q refl
+    where
+      go : (x : List Set) → q ≡ x → q ≡ []
+      go [] z = z
+      go (T ∷ r) z = absurd (some-after n d L (l .hi) (l .is ∙ z) none)
 
 -- ---- the answers
 
@@ -121,7 +125,7 @@ module _ {n : ℕ} {T : List ℕ} {c root : ℕ} (lent : Lent true n T c root) (
         long = w .long ∙ ap (λ (x : List Set). length (setsBytes n x)) fit;
         bytes = w .bytes ∙ ap (λ (x : List Set). setsBytes n x ++ drop used rm) fit;
         last-set = last-is ∙ ap (lastOr (startOf begin ws)) fit;
-        end = subst (λ (U : Set). (finished ≡ true) ↔ NoneAfter (den T root) U) (sym last-is) (end-of l (w .end));
+        end = subst (λ (U : Set). (finished ≡ true) ↔ NoneAfter (den T root) U) (sym last-is) ((λ t. some-left l (w .end .0 t)), λ none. w .end .1 (none-left l none));
       })
 
 -- a refusal, as the code makes it

@@ -6,3 +6,6 @@ pub mod After
 pub mod Bytes
 pub mod Calls
 pub mod Answers
+pub mod Once
+pub mod Join
+pub mod Paper
