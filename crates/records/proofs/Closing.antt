@@ -9,7 +9,8 @@ use Rattle.paper.specs.Limits.{limits}
 use Rattle.paper.specs.Lists.{sum}
 use Rattle.records.specs.Answers.{verdict}
 use Rattle.records.specs.Format.{lengthOf}
-use Rattle.records.specs.Uses.{lowestUnused, unusedOf, gatesFrom}
+use Rattle.paper.specs.Flat.{gatesFrom}
+use Rattle.records.specs.Uses.{lowestUnused, unusedOf}
 use Rattle.records.specs.Judge.{Book, Outcome, refuse, accept, unusedBy, closeOf, answerOf, counts, outcome, judge}
 use Rattle.records.specs.Memory.{memory, inMemory}
 use Rattle.records.specs.Inner.{Complete, Fronts, Held, Sized}

@@ -11,7 +11,7 @@ use borrow.Author.Tests.{ltb-true, ltb-false, lt-ltb, le-ltb}
 use Rattle.paper.specs.Limits.{limits}
 use Rattle.records.specs.Format.{recordOf, widthOf, encode}
 use Rattle.records.specs.Rules.{admitOf, stepOf}
-use Rattle.records.specs.Uses.{gatesFrom}
+use Rattle.paper.specs.Flat.{gatesFrom}
 use Rattle.records.specs.Judge.{pastEvent, pastGate, pastInput}
 use Rattle.records.specs.Bytes.{inputBytes, gateBytes, eventBytes, bytesOf, chanceAt, nextOf}
 use Rattle.records.specs.Inner.{Own, Within}

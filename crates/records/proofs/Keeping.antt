@@ -14,7 +14,7 @@ use Rattle.paper.specs.Limits.{limits, billion}
 use Rattle.paper.specs.Lists.{sum}
 use Rattle.records.specs.Choice.{if_then_else_}
 use Rattle.records.specs.Format.{byte, recordOf, widthOf}
-use Rattle.records.specs.Uses.{gatesFrom}
+use Rattle.paper.specs.Flat.{gatesFrom}
 use Rattle.records.specs.Rules.{wrongK}
 use Rattle.records.specs.Judge.{Book, start, counts, _▷_, addEvent, addGate, addInput}
 use Rattle.records.specs.Memory.{noEvent}

@@ -15,10 +15,11 @@ use Rattle.paper.specs.Limits.{limits}
 use Rattle.paper.specs.Lists.{sum}
 use Rattle.paper.specs.Trees.{Input, event, gate, Gate, andG, orG, leastG, events, InputBelow, InputsBelow, GateBelow, TreeBelow}
 use Rattle.records.specs.Choice.{if_then_else_}
-use Rattle.records.specs.Uses.{gatesFrom, among, lowestUnused, unusedOf}
+use Rattle.paper.specs.Flat.{gatesFrom, inputOf, gateOf, gatesOf}
+use Rattle.records.specs.Uses.{among, lowestUnused, unusedOf}
 use Rattle.records.specs.Rules.{wrongK}
 use Rattle.records.specs.Judge.{Book, start, accept, unusedBy, outcome}
-use Rattle.records.specs.Trees.{Fits, Lawful, inputOf, gateOf, gatesOf, treeOf, InputLower, InputsLower, GateLower, TreeLower}
+use Rattle.records.specs.Trees.{Fits, Lawful, treeOf, InputLower, InputsLower, GateLower, TreeLower}
 use Rattle.records.specs.declared.Event.{Event}
 use Rattle.records.specs.declared.uses.Found.{Found}
 use Rattle.records.specs.declared.uses.Found.the-variants.{At, Nothing}

@@ -6,7 +6,7 @@ use Prim.Native.Nat.{ℕ, _+_, _≤_}
 use native.Mathlib.Omega.{arith}
 use lib.ListN.{length}
 use Rattle.paper.specs.Limits.{limits}
-use Rattle.records.specs.Uses.{gatesFrom}
+use Rattle.paper.specs.Flat.{gatesFrom}
 use Rattle.records.specs.Judge.{Book, accept, outcome}
 use Rattle.records.proofs.Runs.{accepted-keeps}
 use Rattle.records.proofs.Sums.{belows, belows-rise, all-below}

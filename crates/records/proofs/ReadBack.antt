@@ -10,7 +10,7 @@ use lib.Dec.{ltb, eqb}
 use Rattle.paper.specs.Limits.{limits}
 use Rattle.paper.specs.Lists.{sum}
 use Rattle.records.specs.Format.{recordOf}
-use Rattle.records.specs.Uses.{gatesFrom}
+use Rattle.paper.specs.Flat.{gatesFrom}
 use Rattle.records.specs.Judge.{Book, start, counts, addEvent, addGate, addInput, accept, outcome}
 use Rattle.records.specs.Memory.{noEvent, memory}
 use Rattle.records.specs.Bytes.{bytesOf, chanceAt, told}

@@ -10,7 +10,7 @@ use lib.Dec.{ltb, leb, eqb}
 use borrow.Author.Tests.{ltb-true, ltb-false, eqb-true, eqb-false, lt-ltb, le-ltb}
 use Rattle.records.specs.Choice.{if_then_else_}
 use Rattle.records.specs.Format.{byte, lengthOf, recordOf, widthOf, encode}
-use Rattle.records.specs.Uses.{gatesFrom}
+use Rattle.paper.specs.Flat.{gatesFrom}
 use Rattle.records.specs.Bytes.{inputRecord, gateRecord}
 use Rattle.records.specs.declared.format.Record.{Record}
 use Rattle.records.specs.declared.format.Record.the-variants.{Missing, Unknown, Short, Event, Gate, EventInput, GateInput, End}

@@ -11,7 +11,7 @@ use borrow.Author.Tests.{ltb-true, ltb-false, leb-true, leb-false, eqb-true, eqb
 use Rattle.paper.specs.Limits.{limits, billion}
 use Rattle.records.specs.Answers.{verdict}
 use Rattle.records.specs.Format.{recordOf, widthOf}
-use Rattle.records.specs.Uses.{gatesFrom}
+use Rattle.paper.specs.Flat.{gatesFrom}
 use Rattle.records.specs.Rules.{wrongK, eventStep, gateStep, eventInputStep, gateInputStep, endStep, admitOf, stepOf}
 use Rattle.records.specs.Trees.{Fits}
 use Rattle.records.specs.declared.Answer.{Answer}

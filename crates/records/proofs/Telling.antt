@@ -12,7 +12,7 @@ use borrow.Author.Tests.{ltb-true, ltb-false, lt-ltb, eqb-true}
 use Rattle.paper.specs.Limits.{limits}
 use Rattle.paper.specs.Lists.{sum}
 use Rattle.records.specs.Format.{recordOf}
-use Rattle.records.specs.Uses.{gatesFrom}
+use Rattle.paper.specs.Flat.{gatesFrom}
 use Rattle.records.specs.Judge.{Book, start, counts, _▷_, addEvent, addGate, addInput}
 use Rattle.records.specs.Memory.{pad, noEvent, memory}
 use Rattle.records.specs.Bytes.{inputRecord, gateRecord, chanceAt, tabulate, toldLeast, told}

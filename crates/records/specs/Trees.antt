@@ -1,33 +1,17 @@
 -- The tree that was read, as the paper has it.
 use mathlib.Core.Path.{_≡_}
 use mathlib.Core.Bool.{true}
-use Prim.Native.Nat.{ℕ, _+_, _-_, _≤_, _<_}
+use Prim.Native.Nat.{ℕ, _+_, _≤_, _<_}
 use mathlib.Core.List.{List, [], _∷_, map}
-use lib.ListN.{length, getD, take, drop}
-use lib.Dec.{ltb, eqb}
+use lib.ListN.{length, getD, take}
 use Rattle.paper.specs.Limits.{Limits, billion}
 use Rattle.paper.specs.Lists.{sum}
 use Rattle.paper.specs.Trees.{Input, event, gate, Gate, andG, orG, leastG, Tree}
-use Rattle.records.specs.Choice.{if_then_else_}
-use Rattle.records.specs.Uses.{gatesFrom, among}
+use Rattle.paper.specs.Flat.{gatesFrom, gatesOf}
+use Rattle.records.specs.Uses.{among}
 use Rattle.records.specs.Judge.{Book}
 use Rattle.records.specs.Memory.{noEvent}
 use Rattle.records.specs.declared.Event.{Event}
-
-abbrev pub inputOf : ℕ → Input
-inputOf code = if ltb code gatesFrom then event code else gate (code - gatesFrom)
-
-abbrev pub gateOf : ℕ → ℕ → List Input → Gate
-gateOf kind k inputs =
-    if eqb kind 2 then andG inputs else
-    if eqb kind 3 then orG inputs else
-    leastG k inputs
-
--- the gates from g on, each with its n of the inputs that are left
-unfoldable pub gatesOf : List ℕ → List ℕ → ℕ → List ℕ → List ℕ → List Gate
-gatesOf kinds leasts g [] inputs = []
-gatesOf kinds leasts g (n ∷ sizes) inputs =
-    gateOf (getD kinds g 0) (getD leasts g 0) (map inputOf (take n inputs)) ∷ gatesOf kinds leasts (g + 1) sizes (drop n inputs)
 
 unfoldable pub treeOf : Book → Tree
 treeOf b = record {

@@ -4,14 +4,11 @@ use mathlib.Core.List.{List, [], _∷_}
 use mathlib.Core.Bool.{Bool, true, false}
 use lib.Dec.{eqb}
 use lib.ListN.{length, getD}
+use Rattle.paper.specs.Flat.{gatesFrom}
 use Rattle.records.specs.Choice.{if_then_else_}
 use Rattle.records.specs.Format.{lengthOf}
 use Rattle.records.specs.declared.uses.Found.{Found}
 use Rattle.records.specs.declared.uses.Found.the-variants.{At, Nothing}
-
--- the input that stands for gate 0: an event's input is its number, and a gate's is its number with this added
-abbrev pub gatesFrom : ℕ
-gatesFrom = 256
 
 -- whether x is one of the inputs
 unfoldable pub among : ℕ → List ℕ → Bool
