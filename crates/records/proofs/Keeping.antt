@@ -46,6 +46,22 @@ gate-kind l {kind} {k} {n} =
     (λ p. never (cc))
     (byte l 0) some)
 
+-- and, or have no k of their own
+gate-plain : (l : List ℕ) {kind k n : ℕ} → recordOf l ≡ Gate kind k n → (kind ≡ 4 → ⊥) → k ≡ 0
+gate-plain l {kind} {k} {n} =
+    let P : Record → Type 0 = λ r. r ≡ Gate kind k n → (kind ≡ 4 → ⊥) → k ≡ 0 in
+    let never : _≡_ {A = ℕ} 0 1 → (kind ≡ 4 → ⊥) → k ≡ 0 = λ z. absurd (omega arith) in
+    front l P (λ _ p. never (cc)) (λ _ p. never (cc)) (λ _ _ p. never (cc))
+    (λ _ some _. known l (λ _ _ r. P r)
+    (λ p. never (cc))
+    (λ p w. cc)
+    (λ p w. cc)
+    (λ p w. absurd (w (cc)))
+    (λ p. never (cc))
+    (λ p. never (cc))
+    (λ p. never (cc))
+    (byte l 0) some)
+
 -- an event's input takes a byte less than a gate's
 input-width : (r : Record) → IsInput r → widthOf r + (if ltb (codeOf r) gatesFrom then 1 else 0) ≤ 3
 input-width Missing h = absurd h
@@ -72,6 +88,7 @@ pub record Kept (b : Book) : Type 0 where
   pub kinds : (g : ℕ) → g < length (b .kinds) → (2 ≤ getD (b .kinds) g 0) × (getD (b .kinds) g 0 ≤ 4)
   pub sizes : (g : ℕ) → g < length (b .sizes) → (1 ≤ getD (b .sizes) g 0) × (getD (b .sizes) g 0 ≤ limits .inputs)
   pub right : (g : ℕ) → g < length (b .sizes) → wrongK (getD (b .kinds) g 0) (getD (b .leasts) g 0) (getD (b .sizes) g 0) ≡ false
+  pub plain : (g : ℕ) → g < length (b .sizes) → (getD (b .kinds) g 0 ≡ 4 → ⊥) → getD (b .leasts) g 0 ≡ 0
   pub fits : (g : ℕ) → g < length (b .sizes) → (i : ℕ) → i < getD (b .sizes) g 0 → sum (take g (b .sizes)) + i < length (b .inputs)
       → Fits (length (b .events)) g (getD (b .inputs) (sum (take g (b .sizes)) + i) 0)
 
@@ -91,6 +108,7 @@ kept-start = record {
   kinds = λ g h. absurd (omega arith);
   sizes = λ g h. absurd (omega arith);
   right = λ g h. absurd (omega arith);
+  plain = λ g h. absurd (omega arith);
   fits = λ g h i j k. absurd (omega arith);
 }
 
@@ -121,6 +139,7 @@ module _ {b : Book} (v : Kept b) where
           kinds = v .kinds;
           sizes = v .sizes;
           right = v .right;
+          plain = v .plain;
           fits = λ g h i j k. absurd (omega arith);
         }
 
@@ -146,6 +165,9 @@ module _ {b : Book} (v : Kept b) where
           right = all-▷ (b .sizes) n 0 (λ g x. wrongK (getD (_▷_ (b .kinds) kind) g 0) (getD (_▷_ (b .leasts) k) g 0) x ≡ false)
               (λ g h. rw (old (b .kinds) kind 0 g (omega (arith, v .sameKinds)), old (b .leasts) k 0 g (omega (arith, v .sameLeasts))) (v .right g h))
               (rw (new (b .kinds) kind 0 G (v .sameKinds), new (b .leasts) k 0 G (v .sameLeasts)) (on .right));
+          plain = all-▷ (b .sizes) n 0 (λ g x. (getD (_▷_ (b .kinds) kind) g 0 ≡ 4 → ⊥) → getD (_▷_ (b .leasts) k) g 0 ≡ 0)
+              (λ g h. rw (old (b .kinds) kind 0 g (omega (arith, v .sameKinds)), old (b .leasts) k 0 g (omega (arith, v .sameLeasts))) (v .plain g h))
+              (rw (new (b .kinds) kind 0 G (v .sameKinds), new (b .leasts) k 0 G (v .sameLeasts)) (gate-plain l (decoded ∙ on .shape)));
           fits = λ g h i j m.
               below-more (λ (x : ℕ). (y : ℕ) → y < getD (_▷_ (b .sizes) n) x 0 → sum (take x (_▷_ (b .sizes) n)) + y < length (b .inputs)
               → Fits (length (b .events)) x (getD (b .inputs) (sum (take x (_▷_ (b .sizes) n)) + y) 0)) G
@@ -174,6 +196,7 @@ module _ {b : Book} (v : Kept b) where
           kinds = v .kinds;
           sizes = v .sizes;
           right = v .right;
+          plain = v .plain;
           fits = λ g h j k m. inner g h j k (rw length-▷ at m);
         }
       where

@@ -87,6 +87,7 @@ lawful-closed {b = b} v =
       kinds = λ g h. k .kinds g (omega (arith, k .sameKinds));
       sizes = k .sizes;
       leasts = λ g h q. right-k _ _ _ (k .right g h) q;
+      plain = k .plain;
       inputs = λ g h i j.
           k .fits g h i j
           (omega (arith, all, sum-take (b .sizes) g h, sum-rises (b .sizes) (g + 1) (length (b .sizes)) (omega arith), ap sum (take-all (length (b .sizes)) (b .sizes) (omega arith))));

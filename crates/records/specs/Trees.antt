@@ -38,6 +38,7 @@ pub record Lawful (L : Limits) (b : Book) : Type 0 where
   pub kinds : (g : ℕ) → g < length (b .sizes) → (2 ≤ getD (b .kinds) g 0) × (getD (b .kinds) g 0 ≤ 4)
   pub sizes : (g : ℕ) → g < length (b .sizes) → (1 ≤ getD (b .sizes) g 0) × (getD (b .sizes) g 0 ≤ L .inputs)
   pub leasts : (g : ℕ) → g < length (b .sizes) → getD (b .kinds) g 0 ≡ 4 → (1 ≤ getD (b .leasts) g 0) × (getD (b .leasts) g 0 ≤ getD (b .sizes) g 0)
+  pub plain : (g : ℕ) → g < length (b .sizes) → (getD (b .kinds) g 0 ≡ 4 → ⊥) → getD (b .leasts) g 0 ≡ 0
   pub inputs : (g : ℕ) → g < length (b .sizes) → (i : ℕ) → i < getD (b .sizes) g 0
       → Fits (length (b .events)) g (getD (b .inputs) (sum (take g (b .sizes)) + i) 0)
   pub eventsUsed : (e : ℕ) → e < length (b .events) → among e (b .inputs) ≡ true
