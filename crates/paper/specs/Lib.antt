@@ -4,6 +4,7 @@ pub mod Lists
 pub mod Sets
 pub mod Functions
 pub mod Trees
+pub mod Flat
 pub mod Steps
 pub mod Nodes
 pub mod Diagrams

@@ -1,11 +1,11 @@
 -- What a stored number denotes, in any table whose branches are lower than their node.
 -- Assumes nothing.
-use mathlib.Core.Path.{_≡_, refl, sym, ap, ap₂, _∙_, subst}
+use mathlib.Core.Path.{_≡_, refl, ap, ap₂, _∙_}
 use mathlib.Core.Bool.{true, false}
 use mathlib.Core.List.{List}
-use Prim.Native.Nat.{ℕ, zero, suc, _+_, _-_, _*_, _≤_, _<_}
+use Prim.Native.Nat.{ℕ, zero, suc, _+_, _-_, _≤_, _<_}
 use native.Mathlib.Omega.{arith}
-use Rattle.paper.specs.Diagrams.{Diagram, leaf, node}
+use Rattle.paper.specs.Diagrams.{leaf, node}
 use Rattle.tables.specs.Table.{eventAt, failedAt, soundAt, eventOf, failedOf, soundOf, denIn, den}
 use Rattle.tables.specs.Stored.{Lower, Kept}
 

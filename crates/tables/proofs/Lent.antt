@@ -1,16 +1,15 @@
 -- What a lent table that passes the check denotes: a diagram with rising events; of a cut diagram, one without failed branch 0.
 -- Assumes nothing.
-use mathlib.Core.Path.{_≡_, refl, sym, ap, _∙_, subst}
+use mathlib.Core.Path.{_≡_, refl, sym, _∙_, subst}
 use mathlib.Core.Bool.{Bool, true, false}
-use mathlib.Core.Logic.{_≢_}
 use mathlib.Core.List.{List}
-use Prim.Native.Nat.{ℕ, zero, suc, _+_, _-_, _*_, _≤_, _<_}
+use Prim.Native.Nat.{ℕ, suc, _+_, _-_, _≤_, _<_}
 use native.Mathlib.Omega.{arith}
-use Rattle.paper.specs.Diagrams.{Diagram, leaf, node, Ordered}
+use Rattle.paper.specs.Diagrams.{leaf, Ordered}
 use Rattle.paper.specs.Cuts.{Suppressed}
-use Rattle.tables.specs.Table.{eventAt, failedAt, soundAt, eventOf, failedOf, soundOf, den}
+use Rattle.tables.specs.Table.{failedAt, soundAt, eventOf, failedOf, den}
 use Rattle.tables.specs.Stored.{Lower}
-use Rattle.tables.specs.Lent.{Above, Node, Lent}
+use Rattle.tables.specs.Lent.{Node, Lent}
 use Rattle.tables.proofs.Den.{den-0, den-1, den-node, den-ind}
 
 -- the numbers of slot k are those of node k + 2

@@ -15,7 +15,7 @@ use Rattle.algebra.specs.Operations.{subs, isNode}
 use Rattle.algebra.proofs.Base.{Three, below, beyond, equal, three}
 use Rattle.algebra.proofs.Lists.{in-append, flat-in, keep-in}
 use Rattle.algebra.proofs.Plain.{Good, stored-le, stored-all}
-use Rattle.tables.specs.Table.{eventAt, failedAt, soundAt, eventOf, failedOf, soundOf, den}
+use Rattle.tables.specs.Table.{failedAt, soundAt, eventOf, failedOf, soundOf, den}
 use Rattle.tables.specs.Stored.{Lower, Unique}
 use Rattle.tables.specs.Lent.{Lent}
 use Rattle.tables.proofs.Den.{den-0, den-1, den-slot, den-node, den-ind}

@@ -1,8 +1,8 @@
-// Tables of nodes: reading them, and the check of a lent one (number 12). A node is three numbers, event, branch with the event failed, branch
+// Tables of nodes: reading them, clearing them, and the check of a lent one (number 12). A node is three numbers, event, branch with the event failed, branch
 // with it sound; slot k, three numbers from 3 * k on, is node number k + 2.
 ghost use mathlib.Core.Path.{_≡_};
 ghost use Prim.Native.Nat.{ℕ, _+_, _-_, _*_, _≤_, _<_};
-ghost use lib.ListN.{length};
+ghost use lib.ListN.{length, replicate};
 ghost use Rattle.paper.specs.Limits.{limits, mostNumbers};
 ghost use Rattle.tables.specs.Table.{eventAt, failedAt, soundAt, eventOf, failedOf, soundOf};
 ghost use Rattle.tables.specs.Flags.{Says};
@@ -59,6 +59,17 @@ pub fn sound_of(nodes: &[u32], i: usize) -> usize
     ensures { λ r. ⌜ r ≡ soundOf (now (nodes .entry)) i ⌝ }
 {
     sound_at(nodes, i - 2)
+}
+
+// Zero throughout.
+pub fn clear(work: &mut [u32])
+    ensures { λ _. ⌜ now (work .exit) ≡ replicate (length (now (work .entry))) 0 ⌝ }
+{
+    let mut i = 0;
+    while i < work.len() {
+        work[i] = 0;
+        i += 1;
+    }
 }
 
 // Whether branch `b` of a node with event `e` is a leaf, or has a higher event.

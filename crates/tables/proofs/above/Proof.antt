@@ -1,5 +1,5 @@
 -- `tables::above` meets its contract. Assumes nothing.
-use Prim.Native.Nat.{_-_, _<_}
+use Prim.Native.Nat.{_-_}
 use native.Mathlib.Omega.{arith}
 use Rattle.tables.proofs.Flags.{says-ltb}
 use borrow.Author.Needs.{needs}
@@ -9,15 +9,12 @@ use Rattle.tables.proofs.above.Reads as reads
 use Rattle.tables.proofs.above.Lts as lts
 use Rattle.tables.proofs.event_of.Reads as event-of-reads
 
--- src/lib.rt:70:9
 returns : tie.Need-returns
 returns c = search needs
 
--- src/lib.rt:72:9
 event-of-requires : tie.Need-event-of-requires
 event-of-requires c κs = let h = c .before .before .pre (c .if1 .left) in omega arith
 
--- src/lib.rt:65:1
 returns-2 : tie.Need-returns-2
 returns-2 c =
     let at = c .before .before .before in

@@ -12,35 +12,27 @@ use Rattle.tables.proofs.event_of.Reads as event-of-reads
 use Rattle.tables.proofs.failed_of.Reads as failed-of-reads
 use Rattle.tables.proofs.sound_of.Reads as sound-of-reads
 
--- src/lib.rt:80:9
 event-of-requires : tie.Need-event-of-requires
 event-of-requires c κs = search needs
 
--- src/lib.rt:81:9
 failed-of-requires : tie.Need-failed-of-requires
 failed-of-requires c κs = search needs
 
--- src/lib.rt:82:9
 sound-of-requires : tie.Need-sound-of-requires
 sound-of-requires c κs = search needs
 
--- src/lib.rt:84:9
 returns : tie.Need-returns
 returns c = search needs
 
--- src/lib.rt:87:9
 returns-2 : tie.Need-returns-2
 returns-2 c = search needs
 
--- src/lib.rt:90:9
 returns-3 : tie.Need-returns-3
 returns-3 c = search needs
 
--- src/lib.rt:92:9
 above-requires : tie.Need-above-requires
 above-requires c κs = search needs
 
--- src/lib.rt:93:9
 returns-4 : tie.Need-returns-4
 returns-4 c =
     let at = c .before .before .before .before .before .before .before .before .before in
@@ -49,11 +41,9 @@ returns-4 c =
     (c .before .before .before .before .before .before .before .event-of .ensures) (c .before .before .before .before .before .before .failed-of .ensures) (c .before .before .before .before .before .sound-of .ensures)
     (at .args .cut) (answer .result) (not-true (answer .result) (c .if4 .taken)) (answer .ensures)
 
--- src/lib.rt:95:9
 above-requires-2 : tie.Need-above-requires-2
 above-requires-2 c κs = search needs
 
--- src/lib.rt:96:9
 returns-5 : tie.Need-returns-5
 returns-5 c =
     let at = c .before .before .before .before .before .before .before .before .before .before .before in
@@ -62,7 +52,6 @@ returns-5 c =
     (c .before .before .before .before .before .before .before .before .before .event-of .ensures) (c .before .before .before .before .before .before .before .before .failed-of .ensures) (c .before .before .before .before .before .before .before .sound-of .ensures)
     (at .args .cut) (answer .result) (not-true (answer .result) (c .if5 .taken)) (answer .ensures)
 
--- src/lib.rt:99:9
 returns-6 : tie.Need-returns-6
 returns-6 c =
     let at = c .before .before .before .before .before .before .before .before .before .before .before .before in
@@ -73,7 +62,6 @@ returns-6 c =
     (at .args .cut) (f .result) (s .result) (omega arith) (omega arith) (omega arith)
     (not-false (f .result) (c .before .before .before .if4 .left)) (not-false (s .result) (c .before .if5 .left)) (f .ensures) (s .ensures) (c .if6 .taken)
 
--- src/lib.rt:76:1
 returns-7 : tie.Need-returns-7
 returns-7 c =
     let at = c .before .before .before .before .before .before .before .before .before .before .before .before in

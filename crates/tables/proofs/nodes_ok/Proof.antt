@@ -1,5 +1,5 @@
 -- `tables::nodes_ok` meets its contract. Assumes nothing.
-use Prim.Native.Nat.{ℕ, _+_, _-_, _*_, _≤_, _<_}
+use Prim.Native.Nat.{ℕ, _+_, _-_, _≤_, _<_}
 use borrow.Author.Count.{below-more}
 use native.Mathlib.Omega.{arith}
 use borrow.Author.Tests.{not-true, not-false}
@@ -17,33 +17,26 @@ Inv-loop nodes n count cut i₀ i = (2 ≤ i) × (i ≤ count + 2) × ((j : ℕ)
 abbrev μ-loop : tie.MeasureT-loop
 μ-loop nodes n count cut i₀ i = count + 2 - i
 
--- src/lib.rt:83:5
 loop-holds : tie.Need-loop-holds Inv-loop μ-loop
 loop-holds c = (omega arith, omega arith, λ j h l. absurd (omega arith))
 
--- src/lib.rt:83:15
 add-loop : tie.Need-add-loop Inv-loop μ-loop
 add-loop c = omega arith
 
--- src/lib.rt:84:13
 node-ok-requires : tie.Need-node-ok-requires Inv-loop μ-loop
 node-ok-requires c κs = omega arith
 
--- src/lib.rt:85:13
 returns : tie.Need-returns Inv-loop μ-loop
 returns c =
     let at-loop = c .before .before .before in
     λ p. says-false (c .before .node-ok .result) (not-true (c .before .node-ok .result) (c .if1 .taken)) (c .before .node-ok .ensures) (p (at-loop .loop .i) (omega arith) (omega arith))
 
--- src/lib.rt:87:9
 add-i : tie.Need-add-i Inv-loop μ-loop
 add-i c = omega arith
 
--- src/lib.rt:83:5
 loop-less : tie.Need-loop-less Inv-loop μ-loop
 loop-less c = omega arith
 
--- src/lib.rt:83:5
 loop-again : tie.Need-loop-again Inv-loop μ-loop
 loop-again c =
     let at-loop = c .before .before .before in
@@ -54,7 +47,6 @@ loop-again c =
           (λ _. says-true (c .before .node-ok .result) (not-false (c .before .node-ok .result) (c .if1 .left)) (c .before .node-ok .ensures)),
     )
 
--- src/lib.rt:78:1
 returns-2 : tie.Need-returns-2 Inv-loop μ-loop
 returns-2 c = λ i h l. c .before .loop .inv .2 i (omega arith) h
 

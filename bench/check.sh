@@ -1,0 +1,31 @@
+#!/bin/sh
+# Compares the plain program with the second one: examples, then city-like trees, then many seeded trees.
+set -e
+cd "$(dirname "$0")/.."
+cargo build --release --offline --quiet -j1 --manifest-path tests/second/Cargo.toml
+second=tests/second/target/release/second
+work=$(mktemp -d)
+trap 'rm -rf "$work"' EXIT
+cc -std=c11 -O2 -Wall -Wextra -o "$work/plain" bench/plain_main.c
+compared=0
+same() { # FILE ROOM MOST MEMO
+    $second plain "$1" "$2" "$3" > "$work/second.out"
+    "$work/plain" "$1" 1000000 1000000 "$4" "$2" "$3" > "$work/plain.out"
+    cmp "$work/second.out" "$work/plain.out" || { echo "differs: $1"; exit 1; }
+    compared=$((compared + 1))
+}
+for tree in examples/*.tree; do
+    for memo in 0 1 1000 65536; do
+        [ $memo -lt 1000 ] && [ "$tree" = examples/european1.tree ] && continue
+        same "$tree" 513 100000 $memo
+    done
+done
+for size in small middle large; do
+    $second city $size | $second equations - > "$work/$size.tree"
+    same "$work/$size.tree" 65536 100000 1000000
+done
+for seed in $(seq 1 ${1:-200}); do
+    $second random $seed > "$work/random.tree"
+    same "$work/random.tree" 600 500 $((seed % 7 * 100 + 4))
+done
+echo "$compared compared, 0 differ"

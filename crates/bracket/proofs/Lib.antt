@@ -1,0 +1,4 @@
+-- The laws on the two numbers.
+pub mod Pass
+pub mod Answer
+pub mod Outcome

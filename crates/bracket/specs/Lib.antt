@@ -1,0 +1,3 @@
+-- What the bracket answers, and what its one pass over the nodes stores.
+pub mod Bracketed
+pub mod Pass

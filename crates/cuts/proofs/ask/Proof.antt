@@ -1,0 +1,24 @@
+-- The leaves, and then the memo. Assumes nothing.
+use borrow.Author.Needs.{needs}
+use native.Mathlib.Omega.{arith}
+use Rattle.cuts.proofs.Apart.{ask-one, ask-none, ask-leaf, ask-memo}
+use Rattle.cuts.proofs.ask.Statement.{statement}
+use Rattle.cuts.proofs.ask.Tie as tie
+
+returns : tie.Need-returns
+returns c = ask-one (c .before .before .args .memo .now) (c .before .before .args .f) (c .before .before .args .g) (c .if1 .taken)
+
+returns-2 : tie.Need-returns-2
+returns-2 c = ask-none (c .before .before .before .args .memo .now) (c .before .before .before .args .f) (c .before .before .before .args .g) (c .if2 .taken)
+
+returns-3 : tie.Need-returns-3
+returns-3 c = ask-leaf (c .before .before .before .before .args .memo .now) (c .before .before .before .before .args .f) (c .before .before .before .before .args .g) (omega arith) (c .if3 .taken)
+
+recall-requires : tie.Need-recall-requires
+recall-requires c κs = search needs
+
+returns-4 : tie.Need-returns-4
+returns-4 c = ask-memo (c .before .before .before .before .before .args .memo .now) (c .before .before .before .before .before .args .f) (c .before .before .before .before .before .args .g) (omega arith) (omega arith) (c .recall .result) (c .recall .ensures)
+
+pub ask-spec : {M : Type 1} → statement M
+ask-spec = tie.close (tie.spec returns returns-2 returns-3 recall-requires returns-4)

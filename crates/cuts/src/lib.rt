@@ -1,0 +1,355 @@
+// The minimal cuts of every function in the root's diagram, as nodes of a table of their own. A number of that table is a cut number; its node has
+// the sets with the event in its failed branch, the sets without it in its sound branch, and no failed branch 0.
+use store::Built;
+use store::Known;
+ghost use mathlib.Core.Path.{_≡_};
+ghost use Prim.Native.Nat.{_+_, _<_, _≤_};
+ghost use lib.ListN.{length};
+ghost use Rattle.algebra.specs.Families.{mkZ, withoutD, cutsD};
+ghost use Rattle.tables.specs.Table.{den};
+ghost use Rattle.store.specs.Store.{Store};
+ghost use Rattle.store.specs.Memo.{Place};
+ghost use Rattle.cuts.specs.Reading.{Held, Readable};
+ghost use Rattle.cuts.specs.Without.{Family, Ready, Asked, Missed, Parted, Finishes, Takes};
+ghost use Rattle.cuts.specs.Reach.{Marked, Spread};
+ghost use Rattle.cuts.specs.Cutting.{Cuts, Room, Turn, Halfway, Base, Steps};
+
+// A cut number and a node number taken apart at the earlier of their events.
+pub struct Parts {
+    pub e: u32,
+    pub f1: u32,
+    pub g1: u32,
+    pub f0: u32,
+    pub g0: u32,
+}
+
+// ---- F without G: the sets of F that do not make G fail
+
+// What is known without taking F and G apart: a leaf, or what the memo says.
+fn ask(memo: &[u32], f: u32, g: u32) -> Known
+    ensures { λ r. ⌜ Asked (now (memo .entry)) f g r ⌝ }
+{
+    if g == 1 {
+        return Known::Node(0);
+    }
+    if g == 0 {
+        return Known::Node(f);
+    }
+    if f < 2 {
+        return Known::Node(f);
+    }
+    store::recall(memo, 3, f, g)
+}
+
+// Takes f and g apart; no set of f has an event earlier than its own, so that its failed branch there is 0.
+fn take_apart(
+    cut: &[u32],
+    heads: &[u32],
+    next: &[u32],
+    nodes: &[u32],
+    count: usize,
+    f: u32,
+    g: u32,
+) -> Parts
+    requires { ⌜ Store (now cut) (now heads) (now next) count ⌝ }
+    requires { ⌜ Family (now cut) count f ⌝ }
+    requires { ⌜ Readable (now nodes) g ⌝ }
+    requires { ⌜ 2 ≤ f ⌝ }
+    requires { ⌜ 2 ≤ g ⌝ }
+    ensures { λ r. ⌜ Parted (now (cut .entry)) (now (nodes .entry)) f g r ⌝ }
+{
+    let i = 3 * ((f - 2) as usize);
+    let j = 3 * ((g - 2) as usize);
+    let x = cut[i];
+    let y = nodes[j];
+    if x < y {
+        return Parts {
+            e: x,
+            f1: cut[i + 1],
+            g1: g,
+            f0: cut[i + 2],
+            g0: g,
+        };
+    }
+    if y < x {
+        return Parts {
+            e: y,
+            f1: 0,
+            g1: 0,
+            f0: f,
+            g0: nodes[j + 2],
+        };
+    }
+    Parts {
+        e: x,
+        f1: cut[i + 1],
+        g1: nodes[j + 1],
+        f0: cut[i + 2],
+        g0: nodes[j + 2],
+    }
+}
+
+// Makes the node over the two results, and keeps it in the memo as that of f without g.
+fn finish(
+    cut: &mut [u32],
+    heads: &mut [u32],
+    next: &mut [u32],
+    memo: &mut [u32],
+    count: usize,
+    f: u32,
+    g: u32,
+    at: usize,
+    e: u32,
+    failed: u32,
+    sound: u32,
+) -> Built
+    requires { ⌜ Store (now cut) (now heads) (now next) count ⌝ }
+    requires { ⌜ Place (now memo) at ⌝ }
+    requires { ⌜ failed < count + 2 ⌝ }
+    requires { ⌜ sound < count + 2 ⌝ }
+    ensures { λ r. ⌜ Finishes (now (cut .entry)) count (mkZ e (den (now (cut .entry)) failed) (den (now (cut .entry)) sound)) (now (cut .exit)) (now (heads .exit)) (now (next .exit)) (now (memo .entry)) f g (now (memo .exit)) r ⌝ }
+{
+    match store::make_z(cut, heads, next, count, e, failed, sound) {
+        Built::Short(c) => Built::Short(c),
+        Built::Done(r, c) => {
+            store::keep(memo, at, 3, f, g, r);
+            Built::Done(r, c)
+        }
+    }
+}
+
+// f without g, neither of them a leaf and not in the memo: F1 without G1 joined with F2 without G2 under the earlier event.
+fn without_nodes(
+    cut: &mut [u32],
+    heads: &mut [u32],
+    next: &mut [u32],
+    memo: &mut [u32],
+    nodes: &[u32],
+    count: usize,
+    f: u32,
+    g: u32,
+    at: usize,
+) -> Built
+    requires { ⌜ Ready (now cut) (now heads) (now next) count (now memo) (now nodes) f g ⌝ }
+    requires { ⌜ Missed (now memo) f g at ⌝ }
+    ensures { λ r. ⌜ Takes (now (cut .entry)) count (now (nodes .entry)) (withoutD (den (now (cut .entry)) f) (den (now (nodes .entry)) g)) (now (cut .exit)) (now (heads .exit)) (now (next .exit)) (now (memo .exit)) r ⌝ }
+{
+    let p = take_apart(cut, heads, next, nodes, count, f, g);
+    match ask(memo, p.f1, p.g1) {
+        Known::Node(hi) => match ask(memo, p.f0, p.g0) {
+            Known::Node(lo) => finish(cut, heads, next, memo, count, f, g, at, p.e, hi, lo),
+            Known::Unknown(at0) => match without_nodes(
+                cut,
+                heads,
+                next,
+                memo,
+                nodes,
+                count,
+                p.f0,
+                p.g0,
+                at0,
+            ) {
+                Built::Short(c) => Built::Short(c),
+                Built::Done(lo, c) => finish(cut, heads, next, memo, c, f, g, at, p.e, hi, lo),
+            },
+        },
+        Known::Unknown(at1) => match without_nodes(
+            cut,
+            heads,
+            next,
+            memo,
+            nodes,
+            count,
+            p.f1,
+            p.g1,
+            at1,
+        ) {
+            Built::Short(c) => Built::Short(c),
+            Built::Done(hi, c1) => match ask(memo, p.f0, p.g0) {
+                Known::Node(lo) => finish(cut, heads, next, memo, c1, f, g, at, p.e, hi, lo),
+                Known::Unknown(at0) => match without_nodes(
+                    cut,
+                    heads,
+                    next,
+                    memo,
+                    nodes,
+                    c1,
+                    p.f0,
+                    p.g0,
+                    at0,
+                ) {
+                    Built::Short(c) => Built::Short(c),
+                    Built::Done(lo, c) => finish(cut, heads, next, memo, c, f, g, at, p.e, hi, lo),
+                },
+            },
+        },
+    }
+}
+
+// f without g.
+fn without(
+    cut: &mut [u32],
+    heads: &mut [u32],
+    next: &mut [u32],
+    memo: &mut [u32],
+    nodes: &[u32],
+    count: usize,
+    f: u32,
+    g: u32,
+) -> Built
+    requires { ⌜ Ready (now cut) (now heads) (now next) count (now memo) (now nodes) f g ⌝ }
+    ensures { λ r. ⌜ Takes (now (cut .entry)) count (now (nodes .entry)) (withoutD (den (now (cut .entry)) f) (den (now (nodes .entry)) g)) (now (cut .exit)) (now (heads .exit)) (now (next .exit)) (now (memo .exit)) r ⌝ }
+{
+    match ask(memo, f, g) {
+        Known::Node(r) => Built::Done(r, count),
+        Known::Unknown(at) => without_nodes(cut, heads, next, memo, nodes, count, f, g, at),
+    }
+}
+
+// ---- the numbers that a root reaches
+
+// Marks the branches of node i where it is marked itself.
+fn mark_branches(nodes: &[u32], marks: &mut [u32], i: usize)
+    requires { ⌜ Held (now nodes) i ⌝ }
+    requires { ⌜ 2 ≤ i ⌝ }
+    requires { ⌜ i < length (now marks) ⌝ }
+    ensures { λ _. ⌜ Spread (now (nodes .entry)) i (now (marks .entry)) (now (marks .exit)) ⌝ }
+{
+    if marks[i] != 1 {
+        return;
+    }
+    let f = tables::failed_of(nodes, i);
+    let s = tables::sound_of(nodes, i);
+    marks[f] = 1;
+    marks[s] = 1;
+}
+
+// Marks with 1 what the root reaches, and with 0 all else.
+pub fn mark(nodes: &[u32], marks: &mut [u32], root: usize)
+    requires { ⌜ Held (now nodes) root ⌝ }
+    requires { ⌜ root < length (now marks) ⌝ }
+    ensures { λ _. ⌜ Marked (now (nodes .entry)) root (now (marks .exit)) ⌝ }
+{
+    store::clear(marks);
+    marks[root] = 1;
+    let mut i = root;
+    while 2 <= i {
+        mark_branches(nodes, marks, i);
+        i -= 1;
+    }
+}
+
+// ---- from the leaves up to the root
+
+// The cuts of node i, whose branches have their cut numbers in `own`: the event added to the failed branch's cuts without the sound branch,
+// together with the sound branch's cuts.
+fn cut_node(
+    cut: &mut [u32],
+    heads: &mut [u32],
+    next: &mut [u32],
+    memo: &mut [u32],
+    nodes: &[u32],
+    own: &[u32],
+    count: usize,
+    i: usize,
+) -> Built
+    requires { ⌜ Turn (now cut) (now heads) (now next) count (now memo) (now nodes) (now own) i ⌝ }
+    ensures { λ r. ⌜ Takes (now (cut .entry)) count (now (nodes .entry)) (cutsD (den (now (nodes .entry)) i)) (now (cut .exit)) (now (heads .exit)) (now (next .exit)) (now (memo .exit)) r ⌝ }
+{
+    let at = 3 * (i - 2);
+    let e = nodes[at];
+    let failed = nodes[at + 1] as usize;
+    let sound = nodes[at + 2] as usize;
+    let f = own[failed];
+    let s = own[sound];
+    match without(cut, heads, next, memo, nodes, count, f, nodes[at + 2]) {
+        Built::Short(c) => Built::Short(c),
+        Built::Done(r, c) => store::make_z(cut, heads, next, c, e, r, s),
+    }
+}
+
+// The same where the root reaches number i, and its cut number is kept.
+fn cut_step(
+    cut: &mut [u32],
+    heads: &mut [u32],
+    next: &mut [u32],
+    memo: &mut [u32],
+    own: &mut [u32],
+    nodes: &[u32],
+    marks: &[u32],
+    count: usize,
+    root: usize,
+    i: usize,
+) -> Built
+    requires { ⌜ Base (now nodes) (now marks) root ⌝ }
+    requires { ⌜ Halfway (now nodes) (now marks) root (now cut) (now heads) (now next) count (now memo) (now own) i ⌝ }
+    requires { ⌜ (2 ≤ i) × (i ≤ root) × (root < length (now own)) ⌝ }
+    ensures { λ r. ⌜ Steps (now (nodes .entry)) (now (marks .entry)) root (now (cut .entry)) count (now (cut .exit)) (now (heads .exit)) (now (next .exit)) (now (memo .exit)) (now (own .exit)) i r ⌝ }
+{
+    if marks[i] != 1 {
+        return Built::Done(0, count);
+    }
+    match cut_node(cut, heads, next, memo, nodes, own, count, i) {
+        Built::Short(c) => Built::Short(c),
+        Built::Done(r, c) => {
+            own[i] = r;
+            Built::Done(r, c)
+        }
+    }
+}
+
+// The cuts of every number that the root reaches.
+fn cut_all(
+    cut: &mut [u32],
+    heads: &mut [u32],
+    next: &mut [u32],
+    memo: &mut [u32],
+    own: &mut [u32],
+    nodes: &[u32],
+    marks: &[u32],
+    root: usize,
+) -> Built
+    requires { ⌜ Base (now nodes) (now marks) root ⌝ }
+    requires { ⌜ Halfway (now nodes) (now marks) root (now cut) (now heads) (now next) 0 (now memo) (now own) 2 ⌝ }
+    requires { ⌜ root < length (now own) ⌝ }
+    ensures { λ r. ⌜ Cuts (den (now (nodes .entry)) root) (now (cut .exit)) (now (heads .exit)) (now (next .exit)) r ⌝ }
+{
+    let mut count = 0;
+    let mut i = 2;
+    while i <= root {
+        match cut_step(cut, heads, next, memo, own, nodes, marks, count, root, i) {
+            Built::Short(c) => {
+                return Built::Short(c);
+            }
+            Built::Done(r, c) => {
+                count = c;
+            }
+        }
+        i += 1;
+    }
+    Built::Done(own[root], count)
+}
+
+// THE CUT TABLE of a node table's root, over whatever the lent memory holds: `next`, `marks` and `own` are work areas with a number for each node.
+pub fn build_cuts(
+    cut: &mut [u32],
+    heads: &mut [u32],
+    next: &mut [u32],
+    memo: &mut [u32],
+    marks: &mut [u32],
+    own: &mut [u32],
+    nodes: &[u32],
+    root: usize,
+) -> Built
+    requires { ⌜ Readable (now nodes) root ⌝ }
+    requires { ⌜ Room (now cut) (now heads) (now next) (now marks) (now own) root ⌝ }
+    ensures { λ r. ⌜ Cuts (den (now (nodes .entry)) root) (now (cut .exit)) (now (heads .exit)) (now (next .exit)) r ⌝ }
+{
+    store::clear(cut);
+    store::clear(heads);
+    store::clear(memo);
+    mark(nodes, marks, root);
+    own[0] = 0;
+    own[1] = 1;
+    cut_all(cut, heads, next, memo, own, nodes, marks, root)
+}

@@ -1,0 +1,242 @@
+-- The listing call, cut by cut.
+-- Assumes nothing.
+use mathlib.Core.Path.{_≡_, refl, sym, ap, ap₂, _∙_, subst}
+use mathlib.Core.Bool.{Bool, true, false, false≢true}
+use mathlib.Core.List.{List, [], _∷_, _++_, append-assoc, append-nil}
+use Prim.Native.Nat.{ℕ, zero, suc, _+_, _-_, _*_, _≤_, _<_}
+use native.Mathlib.Omega.{arith}
+use lib.ListN.{length, take, drop, length-append, length-drop}
+use lib.Seq.{take-at, drop-drop, drop-append-add, length-take-le}
+use Rattle.paper.specs.Limits.{limits}
+use Rattle.paper.specs.Lists.{lastOr}
+use Rattle.paper.specs.Sets.{Set, none}
+use Rattle.paper.specs.Listing.{memberBytes, cutBytes, setBytes, setsBytes}
+use Rattle.sets.specs.Words.{setOf}
+use Rattle.sets.proofs.Count.{members-length}
+use Rattle.tables.specs.Lent.{Lent}
+use Rattle.listing.specs.Paths.{ofEvents, eventsOf, along, around, Open, leftOf, Reached}
+use Rattle.listing.specs.Bytes.{Placed, picked}
+use Rattle.listing.specs.Answers.{Short}
+use Rattle.listing.specs.Calls.{Stopped, Listing, short, wrote}
+use Rattle.listing.proofs.Paths.{around-one}
+use Rattle.listing.proofs.Bytes.{path-bytes, path-size, events-length, picked-all}
+
+-- no path yet
+pub open-start : {n : ℕ} {T : List ℕ} {c root : ℕ} (P : List ℕ) → Lent true n T c root → length P ≡ limits .events → Open n T c P 0 root
+open-start P l q =
+    let w = l .few-events in
+    record { lent = l; long = omega arith; deep = omega arith; end = 0; climbs = omega arith; low = omega arith; above = λ h. omega arith }
+
+-- ---- lists of sets
+
+pub bytes-append : (n : ℕ) (p q : List Set) → setsBytes n (p ++ q) ≡ setsBytes n p ++ setsBytes n q
+bytes-append n [] q = refl
+bytes-append n (S ∷ p) q = ap (λ (x : List ℕ). setBytes n S ++ x) (bytes-append n p q) ∙ sym (append-assoc (setBytes n S) (setsBytes n p) (setsBytes n q))
+
+bytes-more : (n : ℕ) (p : List Set) (S : Set) → setsBytes n (p ++ (S ∷ [])) ≡ setsBytes n p ++ setBytes n S
+bytes-more n p S = bytes-append n p (S ∷ []) ∙ ap (λ (x : List ℕ). setsBytes n p ++ x) (append-nil (setBytes n S))
+
+last-more : (b : Set) (p : List Set) (S : Set) → lastOr b (p ++ (S ∷ [])) ≡ S
+last-more b [] S = refl
+last-more b (U ∷ p) S = last-more U p S
+
+pub nil-cons : {S : Set} {q : List Set} → [] ≡ S ∷ q → ⊥
+nil-cons e = let z : _≡_ {A = ℕ} 0 1 = cc in omega arith
+
+same-head : {S U : Set} {p q : List Set} → (S ∷ p) ≡ (U ∷ q) → S ≡ U
+same-head e = cc
+
+len-zero : (l : List Set) → length l ≡ 0 → l ≡ []
+len-zero [] e = refl
+len-zero (S ∷ l) e = absurd (omega arith)
+
+-- the room after one cut more
+joined : (room w cut room₀ : List ℕ) (used n : ℕ) → length w ≡ used → room ≡ w ++ drop used room₀ → take used room ++ (cut ++ drop (used + n) room) ≡ (w ++ cut) ++ drop (used + n) room₀
+joined room w cut room₀ used n e b =
+    let front : take used room ≡ w = ap (take used) b ∙ take-at w (drop used room₀) used e in
+    let back : drop (used + n) room ≡ drop (used + n) room₀ =
+    ap₂ (λ (k : ℕ) (x : List ℕ). drop (k + n) x) (sym e) b ∙ drop-append-add w (drop used room₀) n ∙ drop-drop n used room₀ in
+    ap₂ (λ (x y : List ℕ). x ++ (cut ++ y)) front back ∙ sym (append-assoc w cut (drop (used + n) room₀))
+
+-- ---- the loop
+
+-- the members of S, m of them, stand in the bytes from `from` on
+pub record Last (R : List ℕ) (from m : ℕ) (S : Set) : Type 0 where
+  pub inside : from + 2 * m ≤ length R
+  pub is : ofEvents (picked R from m) ≡ S
+
+-- where the loop is: the cuts written and those left, the first of which is the path's
+pub record Run (n : ℕ) (T : List ℕ) (c : ℕ) (l : List Set) (base room₀ room P : List ℕ) (found : Bool) (d from size used k : ℕ) : Type 0 where
+  pub written : List Set
+  pub left : List Set
+  pub path : Open n T c P d 1
+  pub P-long : length P ≡ limits .events
+  pub whole : l ≡ written ++ left
+  pub left-is : left ≡ leftOf found T P d
+  pub count : k ≡ length written
+  pub count-le : k ≤ used
+  pub bytes-used : used ≡ length (setsBytes n written)
+  pub bytes : room ≡ setsBytes n written ++ drop used room₀
+  pub within : used ≤ length room₀
+  pub last : 0 < k → Last room from size (lastOr (setOf base) written)
+
+pub run-start : {n : ℕ} {T : List ℕ} {c : ℕ} {l : List Set} {P : List ℕ} {found : Bool} {d : ℕ} (base room₀ : List ℕ) → Reached n T c P found d l → length P ≡ limits .events → Run n T c l base room₀ room₀ P found d 0 0 0 0
+run-start {l = l} base room₀ r q = record {
+  written = [];
+  left = l;
+  path = r .path;
+  P-long = q;
+  whole = refl;
+  left-is = r .is;
+  count = refl;
+  count-le = omega arith;
+  bytes-used = refl;
+  bytes = refl;
+  within = omega arith;
+  last = λ h. absurd (omega arith);
+}
+
+module _ {n : ℕ} {T : List ℕ} {c : ℕ} {l : List Set} {base room₀ room P : List ℕ} {found : Bool} {d from size used k : ℕ} (r : Run n T c l base room₀ room P found d from size used k) where
+  pub run-long : length room ≡ length room₀
+  run-long = let h = r .within in let u = r .bytes-used in ap length (r .bytes) ∙ simp (length-append, length-drop) (omega arith)
+
+  pub run-inside : 0 < k → from + 2 * size ≤ length room
+  run-inside h = r .last h .inside
+
+  -- the last set, as it was read back
+  run-last : (last : List ℕ) → (k ≡ 0 → last ≡ base) → (0 < k → setOf last ≡ ofEvents (picked room from size)) → setOf last ≡ lastOr (setOf base) (r .written)
+  run-last last z s = go k refl
+    where
+      go : (m : ℕ) → k ≡ m → setOf last ≡ lastOr (setOf base) (r .written)
+      go zero e = ap setOf (z e) ∙ ap (lastOr (setOf base)) (sym (len-zero (r .written) (sym (r .count) ∙ e)))
+      go (suc m) e = let h : 0 < k = omega arith in s h ∙ r .last h .is
+
+  -- the loop ends: no cut is left
+  pub run-end : {last : List ℕ} → found ≡ false → (k ≡ 0 → last ≡ base) × (0 < k → setOf last ≡ ofEvents (picked room from size)) → Listing n l (setOf base) room₀ room 0 k used last true
+  run-end {last} e q =
+      let z : r .left ≡ [] = r .left-is ∙ ap (λ (f : Bool). leftOf f T P d) e in
+      let u = r .bytes-used in
+      let w = r .within in
+      wrote (record {
+        written = r .written;
+        left = r .left;
+        whole = r .whole;
+        within = omega arith;
+        full = λ S y p. absurd (nil-cons (sym z ∙ p));
+        some = λ _. z;
+        is = refl;
+        cuts = r .count;
+        long = r .bytes-used;
+        bytes = r .bytes;
+        last-set = run-last last (q .0) (q .1);
+        end = (λ _. z, λ _. refl);
+      })
+
+  module _ (is : found ≡ true) where
+    next : r .left ≡ along T (take d P) ∷ around T (take d P) []
+    next = r .left-is ∙ ap (λ (f : Bool). leftOf f T P d) is ∙ around-one T (take d P) []
+
+    -- the next cut does not fit
+    module _ {w : ℕ} {room′ : List ℕ} (z : w ≡ 0) (pl : Placed n room used (along T (take d P)) w room′) where
+      pub short-inside : 0 < k → from + 2 * size ≤ length room′
+      short-inside h = subst (λ (x : List ℕ). from + 2 * size ≤ length x) (sym (pl .short z .1)) (run-inside h)
+
+      pub run-short : {last : List ℕ} {a k′ used′ : ℕ} {last′ : List ℕ} {fin : Bool} → (k ≡ 0 → last ≡ base) × (0 < k → setOf last ≡ ofEvents (picked room′ from size))
+          → Stopped k used last a k′ used′ last′ fin → Listing n l (setOf base) room₀ room′ a k′ used′ last′ fin
+      run-short {last} {a} {k′} {used′} {last′} {fin} q st = judge k refl
+        where
+          long : length room < used + length (setBytes n (along T (take d P)))
+          long = pl .short z .0
+
+          judge : (m : ℕ) → k ≡ m → Listing n l (setOf base) room₀ room′ a k′ used′ last′ fin
+          judge zero e =
+              let f = st .none-yet e in
+              let none-written : r .written ≡ [] = len-zero (r .written) (sym (r .count) ∙ e) in
+              let no-byte : used ≡ 0 = r .bytes-used ∙ ap (λ (p : List Set). length (setsBytes n p)) none-written in
+              let lr = run-long in
+              let lg = long in
+              let all : l ≡ along T (take d P) ∷ around T (take d P) [] = r .whole ∙ ap (λ (p : List Set). p ++ r .left) none-written ∙ next in
+              short (subst (Short n (length room₀)) (sym all) (omega arith)) (record {
+                is = f .is;
+                no-cut = f .no-cut;
+                no-byte = f .no-byte;
+                empty-set = f .empty-set;
+                unfinished = f .unfinished;
+                kept = pl .short z .1 ∙ r .bytes ∙ ap₂ (λ (p : List Set) (j : ℕ). setsBytes n p ++ drop j room₀) none-written no-byte;
+              })
+          judge (suc m) e =
+              let h : 0 < k = omega arith in
+              let y = st .some-yet h in
+              let u = r .bytes-used in
+              let wi = r .within in
+              let lr = run-long in
+              let lg = long in
+              wrote (record {
+                written = r .written;
+                left = r .left;
+                whole = r .whole;
+                within = omega arith;
+                full = λ S x p.
+                    let same : length (setBytes n (along T (take d P))) ≡ length (setBytes n S) = ap (λ (U : Set). length (setBytes n U)) (same-head (sym next ∙ p)) in
+                    omega arith;
+                some = λ none. absurd (let a : length (r .written) ≡ 0 = ap length none in let b = r .count in omega arith);
+                is = y .0;
+                cuts = y .1 ∙ r .count;
+                long = y .2 ∙ r .bytes-used;
+                bytes = pl .short z .1 ∙ r .bytes ∙ ap (λ (j : ℕ). setsBytes n (r .written) ++ drop j room₀) (sym (y .2));
+                last-set = ap setOf (y .3) ∙ run-last last (q .0) (λ h. q .1 h ∙ ap (λ (x : List ℕ). ofEvents (picked x from size)) (pl .short z .1));
+                end = (λ t. absurd (false≢true (sym (y .4) ∙ t)), λ x. absurd (nil-cons (sym x ∙ next)));
+              })
+
+    -- it was written
+    module _ {w : ℕ} {room′ : List ℕ} (z : 0 < w) (pl : Placed n room used (along T (take d P)) w room′) where
+      pub run-fits : used + w ≤ length room₀
+      run-fits = let p = pl .placed z .1 in let l = run-long in omega arith
+
+      pub run-less : length room₀ - (used + w) < length room₀ - used
+      run-less = let p = run-fits in omega arith
+
+      stands : Last room′ used d (along T (take d P))
+      unfolding cutBytes
+      stands =
+          let p = pl .placed z in
+          let size = path-size (r .path) in
+          let fit = p .1 in
+          let long = run-long in
+          let wi = r .within in
+          let t = eventsOf T (take d P) in
+          let back = (0x22 ∷ []) ++ drop (used + w) room in
+          let is : room′ ≡ take used room ++ (memberBytes t ++ back) =
+          p .2 ∙ ap (λ (x : List ℕ). take used room ++ (x ++ drop (used + w) room)) (path-bytes (r .path) n (omega arith))
+          ∙ ap (λ (x : List ℕ). take used room ++ x) (append-assoc (memberBytes t) (0x22 ∷ []) (drop (used + w) room)) in
+          let front : length (take used room) ≡ used = length-take-le used room (omega arith) in
+          let la : length room′ ≡ used + length (memberBytes t ++ back) = ap length is ∙ length-append (take used room) (memberBytes t ++ back) ∙ ap (λ (x : ℕ). x + length (memberBytes t ++ back)) front in
+          let lb = length-append (memberBytes t) back in
+          let lc : length (memberBytes t) ≡ 2 * d = members-length t ∙ ap (λ (x : ℕ). 2 * x) (events-length (r .path)) in
+          record {
+            inside = omega arith;
+            is = ap ofEvents (ap₂ (λ (R : List ℕ) (m : ℕ). picked R used m) is (sym (events-length (r .path))) ∙ picked-all (take used room) t back used front);
+          }
+
+      pub run-more : {P′ : List ℕ} {found′ : Bool} {d′ : ℕ} → Reached n T c P′ found′ d′ (around T (take d P) []) → length P′ ≡ limits .events
+          → Run n T c l base room₀ room′ P′ found′ d′ used d (used + w) (k + 1)
+      run-more re long′ =
+          let p = pl .placed z in
+          let S = along T (take d P) in
+          let q = around T (take d P) [] in
+          let cl = r .count-le in
+          let used-is : length (setsBytes n (r .written)) ≡ used = sym (r .bytes-used) in
+          record {
+            written = r .written ++ (S ∷ []);
+            left = q;
+            path = re .path;
+            P-long = long′;
+            whole = r .whole ∙ ap (λ (x : List Set). r .written ++ x) next ∙ sym (append-assoc (r .written) (S ∷ []) q);
+            left-is = re .is;
+            count = ap (λ (n : ℕ). n + 1) (r .count) ∙ sym (length-append (r .written) (S ∷ []));
+            count-le = omega arith;
+            bytes-used = ap₂ _+_ (r .bytes-used) (p .0) ∙ sym (ap length (bytes-more n (r .written) S) ∙ length-append (setsBytes n (r .written)) (setBytes n S));
+            bytes = p .2 ∙ joined room (setsBytes n (r .written)) (setBytes n S) room₀ used w used-is (r .bytes) ∙ ap (λ (x : List ℕ). x ++ drop (used + w) room₀) (sym (bytes-more n (r .written) S));
+            within = run-fits;
+            last = λ _. subst (Last room′ used d) (sym (last-more (setOf base) (r .written) S)) stands;
+          }

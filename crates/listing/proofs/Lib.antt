@@ -1,0 +1,11 @@
+-- Paths and what is left at them, the walk along a set, bytes, and the listing call.
+pub mod Paths
+pub mod Steps
+pub mod Behind
+pub mod After
+pub mod Bytes
+pub mod Calls
+pub mod Answers
+pub mod Once
+pub mod Join
+pub mod Paper

@@ -1,0 +1,20 @@
+-- `listing::walk::land` meets its contract. Assumes nothing.
+use borrow.Author.Needs.{needs}
+use Rattle.listing.proofs.Steps.{land-none}
+use Rattle.listing.proofs.walk.land.Statement.{statement}
+use Rattle.listing.proofs.walk.land.Tie as tie
+
+returns : tie.Need-returns
+returns c = land-none (c .before .before .before .pre .0) (c .before .before .before .pre .1) (c .if1 .taken)
+
+descend-requires : tie.Need-descend-requires
+descend-requires c κs = search needs
+
+same-length : tie.Need-same-length
+same-length c = search needs
+
+returns-2 : tie.Need-returns-2
+returns-2 c = search needs
+
+pub land-spec : {M : Type 1} → statement M
+land-spec = tie.close (tie.spec returns descend-requires same-length returns-2)

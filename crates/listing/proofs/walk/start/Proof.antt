@@ -1,0 +1,28 @@
+-- `listing::walk::start` meets its contract. Assumes nothing.
+use borrow.Author.Needs.{needs}
+use Rattle.listing.proofs.After.{start-all, start-after}
+use Rattle.listing.proofs.walk.start.Statement.{statement}
+use Rattle.listing.proofs.walk.start.Tie as tie
+
+land-requires : tie.Need-land-requires
+land-requires c κs = search needs
+
+same-length : tie.Need-same-length
+same-length c = search needs
+
+returns : tie.Need-returns
+returns c = start-all (c .before .before .before .before .before .before .before .before .args .root) (c .before .before .before .before .before .before .before .before .args .begin) (c .before .before .before .before .before .before .before .before .args .s .now) (c .before .before .before .before .if1 .taken) (c .before .before .land .ensures)
+
+next-after-requires : tie.Need-next-after-requires
+next-after-requires c κs = search needs
+
+same-length-2 : tie.Need-same-length-2
+same-length-2 c = search needs
+
+returns-2 : tie.Need-returns-2
+returns-2 c = start-after (c .before .before .before .before .before .before .before .before .args .root) (c .before .before .before .before .before .before .before .before .args .begin) (c .before .before .before .before .before .before .before .before .args .s .now) (c .before .before .before .before .if1 .left) (c .before .before .next-after .ensures)
+
+pub start-spec : {M : Type 1} → statement M
+start-spec =
+    tie.close
+    (tie.spec land-requires same-length returns next-after-requires same-length-2 returns-2)

@@ -1,0 +1,123 @@
+-- What the search for unused items finds in a tree in memory, said of the book whose lists it holds.
+-- Assumes nothing.
+use mathlib.Core.Path.{_≡_, refl, sym, ap, _∙_}
+use mathlib.Core.List.{List}
+use Prim.Native.Nat.{ℕ, _+_, _-_, _*_, _≤_, _<_}
+use native.Mathlib.Omega.{arith}
+use lib.ListN.{length, getD, take, length-take}
+use Rattle.paper.specs.Limits.{limits}
+use Rattle.paper.specs.Lists.{sum}
+use Rattle.records.specs.Answers.{verdict}
+use Rattle.records.specs.Format.{lengthOf}
+use Rattle.paper.specs.Flat.{gatesFrom}
+use Rattle.records.specs.Uses.{lowestUnused, unusedOf}
+use Rattle.records.specs.Judge.{Book, Outcome, refuse, accept, unusedBy, closeOf, answerOf, counts, outcome, judge}
+use Rattle.records.specs.Memory.{memory, inMemory}
+use Rattle.records.specs.Inner.{Complete, Fronts, Held, Sized}
+use Rattle.records.specs.declared.Answer.{Answer}
+use Rattle.records.specs.declared.Answer.the-variants.{Done, Unused}
+use Rattle.records.specs.declared.uses.Found.{Found}
+use Rattle.records.specs.declared.uses.Found.the-variants.{At, Nothing}
+use Rattle.records.specs.declared.Reading.{Reading}
+use Rattle.records.specs.declared.judge.State.{State}
+use Rattle.records.specs.declared.Tree.{Tree}
+use Rattle.records.proofs.Standing.{held-memory}
+
+module _ (n : ℕ) (sizes places inputs : List ℕ) where
+  pub unused-event : {i : ℕ} → lowestUnused n 0 0 inputs ≡ At i → At (lengthOf 1 * i) ≡ unusedOf n sizes places inputs
+  unfolding unusedOf
+  unused-event e = rw (e, unusedOf)
+
+  pub unused-gate : {g : ℕ} → lowestUnused n 0 0 inputs ≡ Nothing → lowestUnused (length sizes - 1) 0 gatesFrom inputs ≡ At g
+      → At (getD places g 0) ≡ unusedOf n sizes places inputs
+  unfolding unusedOf
+  unused-gate e d = rw (e, d, unusedOf)
+
+  pub unused-none : lowestUnused n 0 0 inputs ≡ Nothing → lowestUnused (length sizes - 1) 0 gatesFrom inputs ≡ Nothing
+      → Nothing ≡ unusedOf n sizes places inputs
+  unfolding unusedOf
+  unused-none e d = rw (e, d, unusedOf)
+
+module _ {b : Book} {sizes places inputs : List ℕ} (h : Fronts b sizes places inputs) {s : State} (e : s ≡ counts b) where
+  gates-are : s .gates ≡ length (b .sizes)
+  gates-are = ap (λ (x : State). x .gates) e
+
+  inputs-count : s .inputs ≡ length (b .inputs)
+  inputs-count = ap (λ (x : State). x .inputs) e
+
+  sizes-are : take (s .gates) sizes ≡ b .sizes
+  sizes-are = rw gates-are (h .sizes)
+
+  places-are : take (s .gates) places ≡ b .places
+  places-are = rw gates-are (h .places)
+
+  inputs-are : take (s .inputs) inputs ≡ b .inputs
+  inputs-are = rw inputs-count (h .inputs)
+
+  pub gates-few : s .gates ≤ limits .gates
+  gates-few = omega (arith, h .fewGates, gates-are)
+
+  pub gates-fit : s .gates ≤ length sizes
+  gates-fit = omega (arith, sym (length-take (s .gates) sizes) ∙ ap length sizes-are, gates-are)
+
+  pub places-fit : s .gates ≤ length places
+  places-fit = omega (arith, sym (length-take (s .gates) places) ∙ ap length places-are, gates-are, h .samePlaces)
+
+  pub inputs-fit : s .inputs ≤ length inputs
+  inputs-fit = omega (arith, sym (length-take (s .inputs) inputs) ∙ ap length inputs-are, inputs-count)
+
+  abbrev sought : Found
+  sought = unusedOf (s .events) (take (s .gates) sizes) (take (s .gates) places) (take (s .inputs) inputs)
+
+  pub complete : 1 ≤ length (b .sizes) → b .left ≡ 0 → Complete (s .events) (take (s .gates) sizes) (take (s .gates) places) (take (s .inputs) inputs)
+  complete some none =
+      rw (sizes-are, places-are, inputs-are, ap (λ (x : State). x .events) e)
+      (record { few = h .fewEvents; some = some; few-gates = h .fewGates; placed = h .samePlaces; whole = omega (arith, h .totalInputs) })
+
+  pub found : {r : Found} → r ≡ sought → r ≡ unusedBy b
+  found q = rw (← ap (λ (x : State). x .events) e, ← sizes-are, ← places-are, ← inputs-are) q
+
+pub closes-at : (b : Book) {p : ℕ} → At p ≡ unusedBy b → closeOf b ≡ refuse (Unused p)
+unfolding closeOf
+closes-at b q = rw (sym q, closeOf)
+
+pub closes-none : (b : Book) → Nothing ≡ unusedBy b → closeOf b ≡ accept b
+unfolding closeOf
+closes-none b q = rw (sym q, closeOf)
+
+pub closes-done : {b : Book} {t : Tree} {ps : List ℕ} → Held b t ps → {s : State} → s ≡ counts b → Nothing ≡ unusedBy b → _≡_ {A = Reading} (record {
+  answer = Done;
+  tree = record {
+    events = t .events;
+    «event_count» = s .events;
+    kinds = t .kinds;
+    leasts = t .leasts;
+    sizes = t .sizes;
+    «gate_count» = s .gates;
+    inputs = t .inputs;
+  };
+})
+    (inMemory (closeOf b))
+unfolding inMemory
+closes-done {b} h e q = rw (closes-none b q) (ap (λ (x : Tree). record { answer = Done; tree = x }) (held-memory h e))
+
+pub answer-of : (o : Outcome) → inMemory o .answer ≡ answerOf o
+unfolding inMemory
+answer-of (accept b) = refl
+answer-of (refuse a) = refl
+
+-- what the search leaves of the answer
+pub sized-answer : (b : Book) (f : Found) → f ≡ unusedBy b → (n : ℕ) (a : Answer) (m : ℕ) → Sized f n a m → a ≡ answerOf (closeOf b)
+sized-answer b (At p) q n a m s = s .0 ∙ ap answerOf (sym (closes-at b q))
+sized-answer b Nothing q n a m s = s .0 ∙ ap answerOf (sym (closes-none b q))
+
+pub sized-done : (b : Book) (f : Found) → f ≡ unusedBy b → (n : ℕ) (a : Answer) (m : ℕ) → Sized f n a m → a ≡ Done → (m ≡ n) × (closeOf b ≡ accept b)
+sized-done b (At p) q n a m s d =
+    let x : Unused p ≡ Done = sym (s .0) ∙ d in
+    let z : _≡_ {A = ℕ} 0 1 = cc in absurd (omega arith)
+sized-done b Nothing q n a m s d = (s .1, closes-none b q)
+
+-- what is answered has the paper's number and place
+pub with-verdict : (bytes : List ℕ) {r : Reading} → r ≡ inMemory (outcome limits bytes) → (r ≡ inMemory (outcome limits bytes)) × (verdict (r .answer) ≡ judge limits bytes)
+unfolding judge
+with-verdict bytes e = (e, ap (λ (x : Reading). verdict (x .answer)) e ∙ ap verdict (answer-of (outcome limits bytes)))

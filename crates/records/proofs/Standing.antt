@@ -1,0 +1,192 @@
+-- Where the loop of `read` stands: a run at a state, and a tree whose arrays hold the run's book.
+-- Assumes nothing.
+use mathlib.Core.Path.{_≡_, refl, sym, ap, _∙_}
+use mathlib.Core.List.{List, [], _∷_, _++_}
+use Prim.Native.Nat.{ℕ, zero, suc, _+_, _-_, _≤_, _<_}
+use native.Mathlib.Omega.{arith}
+use lib.ListN.{length, set, take}
+use Rattle.paper.specs.Limits.{limits}
+use Rattle.records.specs.Rules.{stepOf}
+use Rattle.records.specs.Judge.{Book, start, counts, pastEvent, pastGate, pastInput, addEvent, addGate, addInput}
+use Rattle.records.specs.Memory.{pad, memory}
+use Rattle.records.specs.Inner.{Fronts, Held}
+use Rattle.records.specs.declared.judge.State.{State}
+use Rattle.records.specs.declared.judge.Step.{Step}
+use Rattle.records.specs.declared.judge.Step.the-variants.{AddEvent, AddGate, AddInput, Close, Refused}
+use Rattle.records.specs.declared.Tree.{Tree}
+use Rattle.records.proofs.Keeping.{Kept}
+use Rattle.records.proofs.Pad.{pad-take, pad-fill}
+use Rattle.records.proofs.Runs.{Running, running-start, running-sound, running-event, running-gate, running-input}
+
+-- the tree after a store
+abbrev pub withEvent : Tree → ℕ → ℕ → Tree
+withEvent t n c = record {
+  events = set (t .events) n (record { chance = c });
+  «event_count» = t .«event_count»;
+  kinds = t .kinds;
+  leasts = t .leasts;
+  sizes = t .sizes;
+  «gate_count» = t .«gate_count»;
+  inputs = t .inputs;
+}
+
+abbrev pub withGate : Tree → ℕ → ℕ → ℕ → ℕ → Tree
+withGate t g kind k n = record {
+  events = t .events;
+  «event_count» = t .«event_count»;
+  kinds = set (t .kinds) g kind;
+  leasts = set (t .leasts) g k;
+  sizes = set (t .sizes) g n;
+  «gate_count» = t .«gate_count»;
+  inputs = t .inputs;
+}
+
+abbrev pub withInput : Tree → ℕ → ℕ → Tree
+withInput t i code = record {
+  events = t .events;
+  «event_count» = t .«event_count»;
+  kinds = t .kinds;
+  leasts = t .leasts;
+  sizes = t .sizes;
+  «gate_count» = t .«gate_count»;
+  inputs = set (t .inputs) i code;
+}
+
+-- the arrays that the search for unused items reads
+pub record Arrays (b : Book) (ns ps is : List ℕ) : Type 0 where
+  pub sizes : ns ≡ pad (limits .gates) 0 (b .sizes)
+  pub places : ps ≡ pad (limits .gates) 0 (b .places)
+  pub inputs : is ≡ pad (limits .inAll) 0 (b .inputs)
+
+module _ {b : Book} {sizes places inputs : List ℕ} (a : Arrays b sizes places inputs) where
+  pub arrays-event : (c next : ℕ) → Arrays (addEvent b c next) sizes places inputs
+  arrays-event c next = record { sizes = a .sizes; places = a .places; inputs = a .inputs }
+
+  pub arrays-fronts : Kept b → Fronts b sizes places inputs
+  arrays-fronts k = record {
+    sizes = rw (a .sizes) (pad-take _ _ _);
+    places = rw (a .places, ← k .samePlaces) (pad-take _ _ _);
+    inputs = rw (a .inputs) (pad-take _ _ _);
+    fewEvents = k .fewEvents;
+    fewGates = k .fewGates;
+    samePlaces = k .samePlaces;
+    totalInputs = k .wanted;
+  }
+
+  pub arrays-gate : Kept b → (kind k n next : ℕ) → length (b .sizes) < limits .gates
+      → Arrays (addGate b kind k n next) (set sizes (length (b .sizes)) n) (set places (length (b .sizes)) (b .at)) inputs
+  arrays-gate kept kind k n next few = record {
+    sizes = pad-fill _ _ (b .sizes) n (a .sizes) refl few;
+    places = pad-fill _ _ (b .places) (b .at) (a .places) (kept .samePlaces) few;
+    inputs = a .inputs;
+  }
+
+  pub arrays-input : Kept b → (i next : ℕ) → 0 < b .left → Arrays (addInput b i next) sizes places (set inputs (length (b .inputs)) i)
+  arrays-input kept i next some = record {
+    sizes = a .sizes;
+    places = a .places;
+    inputs = pad-fill _ _ (b .inputs) i (a .inputs) refl (omega (arith, kept .fewInputs));
+  }
+
+module _ {b : Book} {t : Tree} {ps : List ℕ} (h : Held b t ps) where
+  module _ (kept : Kept b) where
+    held-event : (c next : ℕ) → length (b .events) < limits .events → Held (addEvent b c next) (withEvent t (length (b .events)) c) ps
+    held-event c next few = record {
+      events = pad-fill _ _ (b .events) (record { chance = c }) (h .events) refl few;
+      kinds = h .kinds;
+      leasts = h .leasts;
+      sizes = h .sizes;
+      inputs = h .inputs;
+      places = h .places;
+    }
+
+    held-gate : (kind k n next : ℕ) → length (b .sizes) < limits .gates
+        → Held (addGate b kind k n next) (withGate t (length (b .sizes)) kind k n) (set ps (length (b .sizes)) (b .at))
+    held-gate kind k n next few = record {
+      events = h .events;
+      kinds = pad-fill _ _ (b .kinds) kind (h .kinds) (kept .sameKinds) few;
+      leasts = pad-fill _ _ (b .leasts) k (h .leasts) (kept .sameLeasts) few;
+      sizes = pad-fill _ _ (b .sizes) n (h .sizes) refl few;
+      inputs = h .inputs;
+      places = pad-fill _ _ (b .places) (b .at) (h .places) (kept .samePlaces) few;
+    }
+
+    held-input : (i next : ℕ) → 0 < b .left → Held (addInput b i next) (withInput t (length (b .inputs)) i) ps
+    held-input i next some = record {
+      events = h .events;
+      kinds = h .kinds;
+      leasts = h .leasts;
+      sizes = h .sizes;
+      inputs = pad-fill _ _ (b .inputs) i (h .inputs) refl (omega (arith, kept .fewInputs));
+      places = h .places;
+    }
+
+    -- what the search for unused items reads off the arrays
+    pub held-fronts : Fronts b (t .sizes) ps (t .inputs)
+    held-fronts = arrays-fronts (record { sizes = h .sizes; places = h .places; inputs = h .inputs }) kept
+
+  pub held-memory : {s : State} → s ≡ counts b → (record {
+    events = t .events;
+    «event_count» = s .events;
+    kinds = t .kinds;
+    leasts = t .leasts;
+    sizes = t .sizes;
+    «gate_count» = s .gates;
+    inputs = t .inputs;
+  }) ≡ memory b
+  unfolding memory
+  held-memory e i = record {
+    events = h .events i;
+    «event_count» = e i .events;
+    kinds = h .kinds i;
+    leasts = h .leasts i;
+    sizes = h .sizes i;
+    «gate_count» = e i .gates;
+    inputs = h .inputs i;
+  }
+
+pub record Standing (bytes : List ℕ) (t : Tree) (ps : List ℕ) (s : State) : Type 0 where
+  pub running : Running bytes s
+  pub held : Held (running .book) t ps
+
+pub standing-start : (bytes : List ℕ) → Standing bytes (memory start) (pad 512 0 []) (counts start)
+unfolding memory running-start
+standing-start bytes = record {
+  running = running-start bytes;
+  held = record {
+    events = refl;
+    kinds = refl;
+    leasts = refl;
+    sizes = refl;
+    inputs = refl;
+    places = refl;
+  };
+}
+
+module _ {bytes : List ℕ} {t : Tree} {ps : List ℕ} {s : State} (v : Standing bytes t ps s) where
+  pub standing-event : (c next : ℕ) → AddEvent c next ≡ stepOf limits bytes s
+      → Standing bytes (withEvent t (s .events) c) ps (pastEvent s next)
+  unfolding running-event
+  standing-event c next e =
+      let on = running-sound (v .running) e in
+      let p = v .running .state in
+      record { running = running-event (v .running) c next e; held = rw (ap (λ (x : State). x .events) p) (held-event (v .held) (v .running .kept) c next (rw p at (on .few))) }
+
+  pub standing-gate : (kind k n next : ℕ) → AddGate kind k n next ≡ stepOf limits bytes s
+      → Standing bytes (withGate t (s .gates) kind k n) (set ps (s .gates) (s .at)) (pastGate s n next)
+  unfolding running-gate
+  standing-gate kind k n next e =
+      let on = running-sound (v .running) e in
+      let p = v .running .state in
+      record {
+        running = running-gate (v .running) kind k n next e;
+        held = rw (ap (λ (x : State). x .gates) p, ap (λ (x : State). x .at) p) (held-gate (v .held) (v .running .kept) kind k n next (rw p at (on .few)));
+      }
+
+  pub standing-input : (i next : ℕ) → AddInput i next ≡ stepOf limits bytes s
+      → Standing bytes (withInput t (s .inputs) i) ps (pastInput s next)
+  unfolding running-input
+  standing-input i next e =
+      let on = running-sound (v .running) e in
+      let p = v .running .state in
+      record { running = running-input (v .running) i next e; held = rw (ap (λ (x : State). x .inputs) p) (held-input (v .held) (v .running .kept) i next (rw p at (on .some))) }

@@ -1,0 +1,91 @@
+-- What the functions inside ask of their callers and tell them.
+use Prim.Native.Nat.{ℕ, _+_, _≤_, _<_}
+use mathlib.Core.Path.{_≡_}
+use mathlib.Core.List.{List, _++_}
+use lib.ListN.{length, take}
+use Rattle.paper.specs.Limits.{limits}
+use Rattle.paper.specs.Lists.{sum}
+use Rattle.records.specs.Format.{recordOf, encode}
+use Rattle.records.specs.Judge.{Book, counts, unusedBy, closeOf, accept, answerOf, outcome}
+use Rattle.records.specs.Memory.{pad, noEvent, inMemory}
+use Rattle.records.specs.Bytes.{bytesOf}
+use Rattle.records.specs.declared.Answer.{Answer}
+use Rattle.records.specs.declared.Answer.the-variants.{Done, Unused}
+use Rattle.records.specs.declared.Reading.{Reading}
+use Rattle.records.specs.declared.Tree.{Tree}
+use Rattle.records.specs.declared.format.Record.{Record}
+use Rattle.records.specs.declared.judge.State.{State}
+use Rattle.records.specs.declared.uses.Found.{Found}
+use Rattle.records.specs.declared.uses.Found.the-variants.{At, Nothing}
+
+-- a state within the limits
+pub record Bounded (s : State) : Type 0 where
+  pub events : s .events ≤ limits .events
+  pub gates : s .gates ≤ limits .gates
+  pub inputs : s .inputs + s .left ≤ limits .inAll
+
+-- what is found is one of the n
+abbrev pub Below : ℕ → Found → Type 0
+Below n (At i) = i < n
+Below n Nothing = Unit {0}
+
+-- what the search for an unused item asks of a tree: within the limits, a gate, a place for each gate, and as many inputs as the gates want
+pub record Complete (events : ℕ) (sizes places inputs : List ℕ) : Type 0 where
+  pub few : events ≤ limits .events
+  pub some : 1 ≤ length sizes
+  pub few-gates : length sizes ≤ limits .gates
+  pub placed : length places ≡ length sizes
+  pub whole : sum sizes ≡ length inputs
+
+-- the fronts of these arrays are what b has
+pub record Fronts (b : Book) (ns ps is : List ℕ) : Type 0 where
+  pub sizes : take (length (b .sizes)) ns ≡ b .sizes
+  pub places : take (length (b .sizes)) ps ≡ b .places
+  pub inputs : take (length (b .inputs)) is ≡ b .inputs
+  pub fewEvents : length (b .events) ≤ limits .events
+  pub fewGates : length (b .sizes) ≤ limits .gates
+  pub samePlaces : length (b .places) ≡ length (b .sizes)
+  pub totalInputs : sum (b .sizes) ≡ length (b .inputs) + b .left
+
+-- a tree with a gate, whose gates have all their inputs
+abbrev pub Ready : List ℕ → List ℕ → List ℕ → State → Type 0
+Ready sizes places inputs s = (b : Book) × Fronts b sizes places inputs × (s ≡ counts b) × (1 ≤ length (b .sizes)) × (b .left ≡ 0)
+
+abbrev pub Seeks : List ℕ → List ℕ → List ℕ → State → Found → Type 0
+Seeks sizes places inputs s r = (b : Book) → Fronts b sizes places inputs → s ≡ counts b → r ≡ unusedBy b
+
+-- t's arrays and ps hold what b has, with zeros behind it
+pub record Held (b : Book) (t : Tree) (ps : List ℕ) : Type 0 where
+  pub events : t .events ≡ pad (limits .events) noEvent (b .events)
+  pub kinds : t .kinds ≡ pad (limits .gates) 0 (b .kinds)
+  pub leasts : t .leasts ≡ pad (limits .gates) 0 (b .leasts)
+  pub sizes : t .sizes ≡ pad (limits .gates) 0 (b .sizes)
+  pub inputs : t .inputs ≡ pad (limits .inAll) 0 (b .inputs)
+  pub places : ps ≡ pad (limits .gates) 0 (b .places)
+
+abbrev pub Closes : Tree → List ℕ → State → Reading → Type 0
+Closes t places s r = (b : Book) → Held b t places → Fronts b (t .sizes) places (t .inputs) → s ≡ counts b → r ≡ inMemory (closeOf b)
+
+-- n itself, where the array of the events has it
+pub record Within (n r : ℕ) : Type 0 where
+  pub inside : r < limits .events
+  pub same : n < limits .events → r ≡ n
+
+-- a record that is read as itself
+abbrev pub Own : Record → Type 0
+Own r = (rest : List ℕ) → recordOf (encode r ++ rest) ≡ r
+
+-- the bytes of t are accepted
+abbrev pub Accepted : Tree → Type 0
+Accepted t = (b : Book) × (outcome limits (bytesOf t) ≡ accept b)
+
+-- what the end record leaves
+abbrev pub Sized : Found → ℕ → Answer → ℕ → Type 0
+Sized (At place) n a m = (a ≡ Unused place) × (m ≡ 0)
+Sized Nothing n a m = (a ≡ Done) × (m ≡ n)
+
+-- what a survey of t says: the answer to t's bytes, and where that is Done how many they are
+pub record Surveyed (t : Tree) (a : Answer) (n : ℕ) : Type 0 where
+  pub answer : a ≡ answerOf (outcome limits (bytesOf t))
+  pub bytes : a ≡ Done → n ≡ length (bytesOf t)
+  pub accepted : a ≡ Done → Accepted t

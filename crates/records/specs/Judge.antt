@@ -1,0 +1,119 @@
+-- Reading goes record by record, and the first faulty record decides.
+use Prim.Native.Nat.{ℕ, zero, suc, _+_, _-_}
+use mathlib.Core.List.{List, [], _∷_, _++_}
+use lib.ListN.{length}
+use Rattle.paper.specs.Answers.{Verdict}
+use Rattle.paper.specs.Limits.{Limits}
+use Rattle.records.specs.Answers.{verdict}
+use Rattle.records.specs.Rules.{stepOf}
+use Rattle.records.specs.Uses.{unusedOf}
+use Rattle.records.specs.declared.Answer.{Answer}
+use Rattle.records.specs.declared.Answer.the-variants.{Done, Cut, Unused}
+use Rattle.records.specs.declared.Event.{Event}
+use Rattle.records.specs.declared.judge.State.{State}
+use Rattle.records.specs.declared.judge.Step.{Step}
+use Rattle.records.specs.declared.judge.Step.the-variants.{AddEvent, AddGate, AddInput, Close, Refused}
+use Rattle.records.specs.declared.uses.Found.{Found}
+use Rattle.records.specs.declared.uses.Found.the-variants.{At, Nothing}
+
+-- What has been read: the place of the next record, how many inputs the last gate still wants, and the tree so far: its events;
+-- each gate's kind, k, n and place; the inputs of all gates in a row.
+pub record Book : Type 0 where
+  pub at : ℕ
+  pub left : ℕ
+  pub events : List Event
+  pub kinds : List ℕ
+  pub leasts : List ℕ
+  pub sizes : List ℕ
+  pub places : List ℕ
+  pub inputs : List ℕ
+
+abbrev pub start : Book
+start = record { at = 0; left = 0; events = []; kinds = []; leasts = []; sizes = []; places = []; inputs = [] }
+
+abbrev pub counts : Book → State
+counts b = record { at = b .at; events = length (b .events); gates = length (b .sizes); inputs = length (b .inputs); left = b .left }
+
+-- one more at the end
+abbrev pub _▷_ {ℓ} : {A : Type ℓ} → List A → A → List A
+_▷_ xs x = xs ++ (x ∷ [])
+
+abbrev pub addEvent : Book → ℕ → ℕ → Book
+addEvent b c next = record {
+  at = next;
+  left = b .left;
+  events = _▷_ (b .events) (record { chance = c });
+  kinds = b .kinds;
+  leasts = b .leasts;
+  sizes = b .sizes;
+  places = b .places;
+  inputs = b .inputs;
+}
+
+abbrev pub addGate : Book → ℕ → ℕ → ℕ → ℕ → Book
+addGate b kind k n next = record {
+  at = next;
+  left = n;
+  events = b .events;
+  kinds = _▷_ (b .kinds) kind;
+  leasts = _▷_ (b .leasts) k;
+  sizes = _▷_ (b .sizes) n;
+  places = _▷_ (b .places) (b .at);
+  inputs = b .inputs;
+}
+
+abbrev pub addInput : Book → ℕ → ℕ → Book
+addInput b i next = record {
+  at = next;
+  left = b .left - 1;
+  events = b .events;
+  kinds = b .kinds;
+  leasts = b .leasts;
+  sizes = b .sizes;
+  places = b .places;
+  inputs = _▷_ (b .inputs) i;
+}
+
+-- the state past each kind of record
+abbrev pub pastEvent : State → ℕ → State
+pastEvent s next = record { at = next; events = s .events + 1; gates = s .gates; inputs = s .inputs; left = s .left }
+
+abbrev pub pastGate : State → ℕ → ℕ → State
+pastGate s n next = record { at = next; events = s .events; gates = s .gates + 1; inputs = s .inputs; left = n }
+
+abbrev pub pastInput : State → ℕ → State
+pastInput s next = record { at = next; events = s .events; gates = s .gates; inputs = s .inputs + 1; left = s .left - 1 }
+
+pub data Outcome : Type 0 where
+  accept : Book → Outcome
+  refuse : Answer → Outcome
+
+-- the place of the lowest unused event, else of the lowest unused gate but the root
+abbrev pub unusedBy : Book → Found
+unusedBy b = unusedOf (length (b .events)) (b .sizes) (b .places) (b .inputs)
+
+unfoldable pub closeOf : Book → Outcome
+closeOf b = elim (unusedBy b) [ At place ↦ refuse (Unused place) | Nothing ↦ accept b ]
+
+-- the records from b on; each is at least a byte long, so as many turns as there are bytes, and one, are enough
+unfoldable pub run : Limits → ℕ → List ℕ → Book → Outcome
+run L zero bytes b = refuse (Cut (length bytes))
+run L (suc turns) bytes b =
+    elim (stepOf L bytes (counts b)) [
+      | AddEvent c next ↦ run L turns bytes (addEvent b c next)
+      | AddGate kind k n next ↦ run L turns bytes (addGate b kind k n next)
+      | AddInput i next ↦ run L turns bytes (addInput b i next)
+      | Close ↦ closeOf b
+      | Refused a ↦ refuse a
+    ]
+
+unfoldable pub outcome : Limits → List ℕ → Outcome
+outcome L bytes = run L (length bytes + 1) bytes start
+
+abbrev pub answerOf : Outcome → Answer
+answerOf (accept b) = Done
+answerOf (refuse a) = a
+
+-- the paper's number and place for some bytes
+unfoldable pub judge : Limits → List ℕ → Verdict
+judge L bytes = verdict (answerOf (outcome L bytes))

@@ -1,0 +1,127 @@
+// A tree in memory, judged as its bytes would be.
+use crate::Answer;
+use crate::Tree;
+use crate::Written;
+use crate::format::Record;
+use crate::format::gate_record;
+use crate::format::input_record;
+use crate::format::width;
+use crate::judge::State;
+use crate::judge::Step;
+use crate::judge::admit;
+use crate::judge::begin;
+use crate::judge::past_event;
+use crate::judge::past_gate;
+use crate::judge::past_input;
+use crate::unwritten;
+use crate::uses::Found;
+use crate::uses::unused_in;
+use paper::EVENTS;
+use paper::GATES;
+use paper::IN_ALL;
+ghost use mathlib.Core.Path.{_≡_};
+ghost use Prim.Native.Nat.{_<_};
+ghost use Rattle.records.specs.Bytes.{nextOf};
+ghost use Rattle.records.specs.Inner.{Bounded, Own, Within, Surveyed, Sized};
+
+// n, if the array of the events has it.
+pub fn within(n: usize) -> usize
+    ensures { λ r. ⌜ Within n r ⌝ }
+{
+    if n < EVENTS {
+        return n;
+    }
+    0
+}
+
+// The record of a tree that comes next at s; behind its arrays, an event of chance 0 or a gate of no input. `chance` is that
+// of event s.events.
+pub fn tree_record<'a>(
+    events: usize,
+    gates: usize,
+    chance: u32,
+    kinds: &'a [u8; GATES],
+    leasts: &'a [u8; GATES],
+    sizes: &'a [u8; GATES],
+    inputs: &'a [u16; IN_ALL],
+    s: State,
+) -> Record
+    requires { ⌜ Bounded s ⌝ }
+    ensures { λ r. ⌜ (r ≡ nextOf events gates chance (now (kinds .entry)) (now (leasts .entry)) (now (sizes .entry)) (now (inputs .entry)) s) × Own r ⌝ }
+{
+    let i = s.inputs;
+    let g = s.gates;
+    if s.events < events {
+        if s.events < EVENTS {
+            return Record::Event(chance);
+        }
+        return Record::Event(0);
+    }
+    if 0 < s.left {
+        return input_record(inputs[i]);
+    }
+    if g < gates {
+        if g < GATES {
+            return gate_record(kinds[g], leasts[g], sizes[g]);
+        }
+        return Record::Gate(2, 0, 0);
+    }
+    Record::End
+}
+
+// The end record is judged: of so many bytes.
+fn surveyed(f: Found, bytes: usize) -> Written
+    ensures { λ r. ⌜ Sized f bytes (r .answer) (r .bytes) ⌝ }
+{
+    match f {
+        Found::At(place) => Written {
+            answer: Answer::Unused(place),
+            bytes: 0,
+        },
+        Found::Nothing => Written {
+            answer: Answer::Done,
+            bytes,
+        },
+    }
+}
+
+// What the bytes of a tree would be answered, and how many they are where that is Done.
+pub fn survey(t: Tree) -> Written
+    ensures { λ r. ⌜ Surveyed t (r .answer) (r .bytes) ⌝ }
+{
+    let mut sizes = [0u8; GATES];
+    let mut places = [0usize; GATES];
+    let mut inputs = [0u16; IN_ALL];
+    let mut s = begin();
+    loop {
+        let at = s.at;
+        let g = s.gates;
+        let i = s.inputs;
+        let n = within(s.events);
+        let e = t.events[n];
+        let r = tree_record(
+            t.event_count,
+            t.gate_count,
+            e.chance,
+            &t.kinds,
+            &t.leasts,
+            &t.sizes,
+            &t.inputs,
+            s,
+        );
+        match admit(s, at + width(r), r) {
+            Step::AddEvent(_, after) => s = past_event(s, after),
+            Step::AddGate(_, _, size, after) => {
+                sizes[g] = size;
+                places[g] = at;
+                s = past_gate(s, size, after);
+            }
+            Step::AddInput(code, after) => {
+                inputs[i] = code;
+                s = past_input(s, after);
+            }
+            Step::Close => return surveyed(unused_in(sizes, places, inputs, s), at + 1),
+            Step::Refused(answer) => return unwritten(answer),
+        }
+    }
+}

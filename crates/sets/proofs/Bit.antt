@@ -1,0 +1,96 @@
+-- The bits of a number: trailing zeros, a single bit, `|` and `^`.
+-- Assumes nothing.
+use mathlib.Core.Path.{_≡_, refl, sym, ap, _∙_, subst}
+use Prim.Native.Nat.{ℕ, zero, suc, _+_, _/_, _%_, _^_, _<_, suc-le-suc, max}
+use native.Mathlib.Nat.{not-suc-le-zero, le-of-suc-le-suc, zero-lt-suc, mod-lt, pow-suc, zero-div}
+use native.Mathlib.Numerals.{add-one, one-add}
+use native.Mathlib.Omega.{arith}
+use lib.Arith.{digits-mod}
+use lib.Pow.{shr-shr, shr-lt}
+use lib.Bits.{bitXor, bitOr, differ, xor-shr, xor-step, or-shr, or-step, xor-add-and, and-le-l, and-le-r}
+use lib.Count.{trailingZeros, under}
+use Rattle.sets.specs.Words.{bit, Trail}
+
+-- bit j + 1 of w is bit j of w / 2
+pub bit-suc : (w j : ℕ) → bit w (suc j) ≡ bit (w / 2) j
+unfolding bit
+bit-suc w j = ap (λ (n : ℕ). w / 2 ^ n % 2) (sym (one-add j)) ∙ ap (λ (n : ℕ). n % 2) (sym (shr-shr w 1 j))
+
+pub bit-zero : (w : ℕ) → bit w 0 ≡ w % 2
+unfolding bit
+bit-zero w = omega arith
+
+pub bit-shift : (w j k : ℕ) → bit (w / 2 ^ j) k ≡ bit w (j + k)
+unfolding bit
+bit-shift w j k = ap (λ (n : ℕ). n % 2) (shr-shr w j k)
+
+pub bit-none : (j : ℕ) → bit 0 j ≡ 0
+unfolding bit
+bit-none j = ap (λ (n : ℕ). n % 2) (zero-div (2 ^ j))
+
+half-lt : {n : ℕ} (k : ℕ) → n < 2 ^ suc k → n / 2 < 2 ^ k
+half-lt {n} k h = shr-lt k 1 (subst (λ (x : ℕ). n < 2 ^ x) (sym (add-one k)) h)
+
+trail-even : (k w t : ℕ) → w % 2 ≡ 0 → Trail (w / 2) k t → Trail w (suc k) (suc t)
+trail-even k w t e r = record { below = suc-le-suc (r .below); set = bit-suc w t ∙ r .set; clear = go }
+  where
+    go : (j : ℕ) → j < suc t → bit w j ≡ 0
+    go zero h = bit-zero w ∙ e
+    go (suc j) h = bit-suc w j ∙ r .clear j (le-of-suc-le-suc h)
+
+trail-odd : (k w : ℕ) → w % 2 ≡ 1 → Trail w (suc k) 0
+trail-odd k w e = record { below = zero-lt-suc k; set = bit-zero w ∙ e; clear = λ j h. absurd (not-suc-le-zero h) }
+
+pub trail : (k w : ℕ) → 0 < w → w < 2 ^ k → Trail w k (trailingZeros k w)
+unfolding trailingZeros
+trail zero w p h = absurd (omega arith)
+trail (suc k) w p h = go (w % 2) refl (λ q. trail k (w / 2) q (half-lt k h))
+  where
+    go : (r : ℕ) → w % 2 ≡ r → (0 < w / 2 → Trail (w / 2) k (trailingZeros k (w / 2))) → Trail w (suc k) (under r (trailingZeros k (w / 2)))
+    go zero e ih = trail-even k w (trailingZeros k (w / 2)) e (ih (omega arith))
+    go (suc r) e ih = trail-odd k w (omega arith)
+
+half-pow : (b : ℕ) → 2 ^ suc b / 2 ≡ 2 ^ b
+half-pow b = omega (arith, pow-suc 2 b)
+
+-- the number 2 ^ b has bit b and no other
+pub bit-own : (b : ℕ) → bit (2 ^ b) b ≡ 1
+bit-own zero = bit-zero 1
+bit-own (suc b) = bit-suc (2 ^ suc b) b ∙ ap (λ (n : ℕ). bit n b) (half-pow b) ∙ bit-own b
+
+pub bit-other : (b j : ℕ) → (j ≡ b → ⊥) → bit (2 ^ b) j ≡ 0
+bit-other zero zero h = absurd (h refl)
+bit-other zero (suc j) h = bit-suc 1 j ∙ bit-none j
+bit-other (suc b) zero h = bit-zero (2 ^ suc b) ∙ omega (arith, pow-suc 2 b)
+bit-other (suc b) (suc j) h = bit-suc (2 ^ suc b) j ∙ ap (λ (n : ℕ). bit n j) (half-pow b) ∙ bit-other b j (λ e. h (ap suc e))
+
+-- bits of `^` and `|`
+differ-lt : (x y : ℕ) → x < 2 → y < 2 → differ x y < 2
+differ-lt zero y h k = k
+differ-lt (suc x) zero h k = h
+differ-lt (suc zero) (suc y) h k = omega arith
+differ-lt (suc (suc x)) (suc y) h k = absurd (omega arith)
+
+xor-low : (a b : ℕ) → bitXor a b % 2 ≡ differ (a % 2) (b % 2)
+xor-low a b =
+    ap (λ (n : ℕ). n % 2) (xor-step a b)
+    ∙ digits-mod (bitXor (a / 2) (b / 2)) (differ-lt (a % 2) (b % 2) (mod-lt a (zero-lt-suc 1)) (mod-lt b (zero-lt-suc 1)))
+
+or-low : (a b : ℕ) → bitOr a b % 2 ≡ max (a % 2) (b % 2)
+or-low a b = omega (arith, or-step a b)
+
+pub bit-xor : (a b j : ℕ) → bit (bitXor a b) j ≡ differ (bit a j) (bit b j)
+unfolding bit
+bit-xor a b j = ap (λ (n : ℕ). n % 2) (xor-shr a b j) ∙ xor-low (a / 2 ^ j) (b / 2 ^ j)
+
+pub bit-or : (a b j : ℕ) → bit (bitOr a b) j ≡ max (bit a j) (bit b j)
+unfolding bit
+bit-or a b j = ap (λ (n : ℕ). n % 2) (or-shr a b j) ∙ or-low (a / 2 ^ j) (b / 2 ^ j)
+
+-- two numbers whose `^` is 0 are equal
+pub xor-same : (a b : ℕ) → bitXor a b ≡ 0 → a ≡ b
+xor-same a b e = omega (arith, xor-add-and a b, and-le-l a b, and-le-r a b)
+
+pub bit-lt : (w j : ℕ) → bit w j < 2
+unfolding bit
+bit-lt w j = omega arith

@@ -1,0 +1,82 @@
+-- The number of members, by the ones of each word; and the bytes of a cut by that number.
+-- Assumes nothing.
+use mathlib.Core.Path.{_≡_, refl, sym, ap, ap₂, _∙_, subst}
+use mathlib.Core.Bool.{Bool, true, false, cond}
+use mathlib.Core.List.{List, [], _∷_}
+use Prim.Native.Nat.{ℕ, zero, suc, _+_, _*_, _/_, _%_, _^_, _≤_, _<_}
+use native.Mathlib.Nat.{zero-add, add-zero, suc-add, mod-lt, zero-lt-suc}
+use native.Mathlib.Numerals.{add-one}
+use native.Mathlib.Omega.{arith}
+use lib.Arith.{lt-one}
+use lib.Dec.{eqb}
+use lib.Pow.{shr-lt}
+use lib.ListN.{length, getD, length-append}
+use lib.Count.{ones, ones-step}
+use Rattle.paper.specs.Lists.{keep, upTo}
+use Rattle.paper.specs.Sets.{Set, members}
+use Rattle.paper.specs.Listing.{memberBytes, cutBytes, setBytes}
+use Rattle.sets.specs.Words.{bit, setOf}
+use Rattle.sets.proofs.Bit.{bit-suc, bit-zero}
+use Rattle.sets.proofs.Words.{set-in}
+
+-- the members among a + b events, in two parts
+count-add : (S : Set) (a b m : ℕ) → length (keep S (upTo (a + b) m)) ≡ length (keep S (upTo a m)) + length (keep S (upTo b (m + a)))
+count-add S zero b m = ap₂ (λ (k i : ℕ). length (keep S (upTo k i))) (zero-add b) (sym (add-zero m)) ∙ sym (zero-add (length (keep S (upTo b (m + 0)))))
+count-add S (suc a) b m =
+    let at : suc m + a ≡ m + suc a = omega arith in
+    ap (λ (k : ℕ). length (keep S (upTo k m))) (suc-add a b)
+    ∙ go (keep S (upTo (a + b) (suc m))) (keep S (upTo a (suc m))) (length (keep S (upTo b (m + suc a)))) (S m) (count-add S a b (suc m) ∙ ap (λ (i : ℕ). length (keep S (upTo a (suc m))) + length (keep S (upTo b i))) at)
+  where
+    go : (l r : List ℕ) (x : ℕ) (t : Bool) → length l ≡ length r + x → length (cond t (m ∷ l) l) ≡ length (cond t (m ∷ r) r) + x
+    go l r x true e = omega arith
+    go l r x false e = e
+
+-- at most all of them are members
+pub count-le : (S : Set) (k m : ℕ) → length (keep S (upTo k m)) ≤ k
+count-le S zero m = omega arith
+count-le S (suc k) m = go (keep S (upTo k (suc m))) (S m) (count-le S k (suc m))
+  where
+    go : (l : List ℕ) (t : Bool) → length l ≤ k → length (cond t (m ∷ l) l) ≤ suc k
+    go l true h = omega arith
+    go l false h = omega arith
+
+-- the members among d events that a number's bits tell
+count-bits : (S : Set) (d m w : ℕ) → w < 2 ^ d → ((j : ℕ) → j < d → S (m + j) ≡ eqb (bit w j) 1) → length (keep S (upTo d m)) ≡ ones w
+unfolding ones
+count-bits S zero m w h t = sym (ap ones (lt-one h))
+count-bits S (suc d) m w h t =
+    let first : S m ≡ eqb (w % 2) 1 = ap S (omega arith) ∙ t 0 (omega arith) ∙ ap (λ (n : ℕ). eqb n 1) (bit-zero w) in
+    let half : w / 2 < 2 ^ d = shr-lt d 1 (subst (λ (x : ℕ). w < 2 ^ x) (sym (add-one d)) h) in
+    let rest = count-bits S d (suc m) (w / 2) half (λ j l. ap S (omega arith) ∙ t (suc j) (omega arith) ∙ ap (λ (n : ℕ). eqb n 1) (bit-suc w j)) in
+    ap (λ (b : Bool). length (cond b (m ∷ keep S (upTo d (suc m))) (keep S (upTo d (suc m))))) first
+    ∙ go (w % 2) (keep S (upTo d (suc m))) (mod-lt w (zero-lt-suc 1)) ∙ ap (λ (n : ℕ). w % 2 + n) rest ∙ sym (ones-step w)
+  where
+    go : (v : ℕ) (l : List ℕ) → v < 2 → length (cond (eqb v 1) (m ∷ l) l) ≡ v + length l
+    go zero l q = sym (zero-add (length l))
+    go (suc zero) l q = omega arith
+    go (suc (suc v)) l q = absurd (omega arith)
+
+-- one word more
+pub count-word : (ws : List ℕ) (k : ℕ) → getD ws k 0 < 2 ^ 64
+    → length (members (k * 64) (setOf ws)) + ones (getD ws k 0) ≡ length (members ((k + 1) * 64) (setOf ws))
+count-word ws k h =
+    let end : k * 64 + 64 ≡ (k + 1) * 64 = omega arith in
+    let word : length (keep (setOf ws) (upTo 64 (0 + k * 64))) ≡ ones (getD ws k 0) =
+    count-bits (setOf ws) 64 (0 + k * 64) (getD ws k 0) h (λ j l. ap (λ (i : ℕ). setOf ws (i + j)) (zero-add (k * 64)) ∙ set-in ws k j l) in
+    ap (λ (n : ℕ). length (members (k * 64) (setOf ws)) + n) (sym word)
+    ∙ sym (count-add (setOf ws) (k * 64) 64 0) ∙ ap (λ (n : ℕ). length (members n (setOf ws))) end
+
+-- ---- the bytes
+
+pub members-length : (l : List ℕ) → length (memberBytes l) ≡ 2 * length l
+unfolding memberBytes
+members-length [] = refl
+members-length (x ∷ l) = let ih = members-length l in omega arith
+
+pub cut-length : (l : List ℕ) → length (cutBytes l) ≡ 2 * length l + 1
+unfolding cutBytes
+cut-length l = length-append (memberBytes l) (0x22 ∷ []) ∙ ap (λ (n : ℕ). n + 1) (members-length l)
+
+-- so many bytes as twice the ones and one
+pub bytes-of : (n : ℕ) (S : Set) {k : ℕ} → k ≡ length (members n S) → 2 * k + 1 ≡ length (setBytes n S)
+bytes-of n S e = ap (λ (x : ℕ). 2 * x + 1) e ∙ sym (cut-length (members n S))

@@ -1,0 +1,5 @@
+-- The laws of bits, of sets in words, and of their order.
+pub mod Bit
+pub mod Words
+pub mod Count
+pub mod Order

@@ -1,0 +1,133 @@
+// A set of events in words of 64 bits: bit i % 64 of word i / 64 is set exactly if event i is a member.
+ghost use mathlib.Core.Path.{_≡_};
+ghost use mathlib.Core.Logic.{_↔_};
+ghost use mathlib.Core.Bool.{true};
+ghost use Prim.Native.Nat.{_*_, _≤_, _<_};
+ghost use lib.ListN.{length, replicate};
+ghost use Rattle.paper.specs.Sets.{put};
+ghost use Rattle.paper.specs.Order.{Before};
+ghost use Rattle.paper.specs.Listing.{setBytes};
+ghost use Rattle.sets.specs.Words.{words, setOf, room, Few, sizeOf, Trail, Lowest, Differ};
+
+// A set that can hold every event of a tree has so many words, and holds so many events.
+pub const WORDS: usize = paper::EVENTS / 64;
+
+pub const MOST: usize = 64 * WORDS;
+
+// No cut has more bytes.
+pub const LONGEST: usize = 2 * MOST + 1;
+
+// The place of the lowest set bit of a word that is not 0.
+fn low_bit(w: u64) -> usize
+    requires { ⌜ 0 < w ⌝ }
+    ensures { λ r. ⌜ Trail w 64 r ⌝ }
+{
+    u64::trailing_zeros(w) as usize
+}
+
+// The empty set.
+pub fn empty() -> [u64; WORDS]
+    ensures { λ r. ⌜ r ≡ replicate words 0 ⌝ }
+{
+    [0u64; WORDS]
+}
+
+// Whether event `i` is a member.
+pub fn has(ws: &[u64], i: usize) -> bool
+    ensures { λ r. ⌜ r ≡ setOf (now (ws .entry)) i ⌝ }
+{
+    let k = i / 64;
+    if k < ws.len() {
+        (ws[k] >> (i % 64)) % 2 == 1
+    } else {
+        false
+    }
+}
+
+// Puts event `i` in.
+pub fn add(ws: &mut [u64], i: usize)
+    requires { ⌜ i < room (now ws) ⌝ }
+    ensures { λ _. ⌜ setOf (now (ws .exit)) ≡ put i true (setOf (now (ws .entry))) ⌝ }
+{
+    let k = i / 64;
+    ws[k] = ws[k] | (1u64 << (i % 64));
+}
+
+// The lowest member in the words from `from` on, or the room where there is none.
+fn lowest_word(ws: &[u64], from: usize) -> usize
+    requires { ⌜ Few (now ws) × (from ≤ length (now ws)) ⌝ }
+    ensures { λ r. ⌜ Lowest (setOf (now (ws .entry))) (room (now (ws .entry))) (from * 64) r ⌝ }
+{
+    let mut k = from;
+    while k < ws.len() {
+        let v = ws[k];
+        if v != 0 {
+            return k * 64 + low_bit(v);
+        }
+        k += 1;
+    }
+    k * 64
+}
+
+// The lowest member from event `i` on, or the room where there is none.
+pub fn lowest(ws: &[u64], i: usize) -> usize
+    requires { ⌜ Few (now ws) ⌝ }
+    ensures { λ r. ⌜ Lowest (setOf (now (ws .entry))) (room (now (ws .entry))) i r ⌝ }
+{
+    let k = i / 64;
+    if ws.len() <= k {
+        return ws.len() * 64;
+    }
+    let w = ws[k] >> (i % 64);
+    if w != 0 {
+        return i + low_bit(w);
+    }
+    lowest_word(ws, k + 1)
+}
+
+// The number of members.
+pub fn size(ws: &[u64]) -> usize
+    requires { ⌜ Few (now ws) ⌝ }
+    ensures { λ r. ⌜ r ≡ sizeOf (now (ws .entry)) ⌝ }
+{
+    let mut k = 0;
+    let mut n = 0;
+    while k < ws.len() {
+        n += u64::count_ones(ws[k]) as usize;
+        k += 1;
+    }
+    n
+}
+
+// The number of bytes of a cut.
+pub fn cut_len(ws: &[u64]) -> usize
+    requires { ⌜ Few (now ws) ⌝ }
+    ensures { λ r. ⌜ r ≡ length (setBytes (room (now (ws .entry))) (setOf (now (ws .entry)))) ⌝ }
+{
+    2 * size(ws) + 1
+}
+
+// The lowest event in which two sets differ, or the room where they do not.
+pub fn apart(a: &[u64], b: &[u64]) -> usize
+    requires { ⌜ Few (now a) × (length (now a) ≡ length (now b)) ⌝ }
+    ensures { λ r. ⌜ Differ (setOf (now (a .entry))) (setOf (now (b .entry))) (room (now (a .entry))) r ⌝ }
+{
+    let mut k = 0;
+    while k < a.len() {
+        let v = a[k] ^ b[k];
+        if v != 0 {
+            return k * 64 + low_bit(v);
+        }
+        k += 1;
+    }
+    k * 64
+}
+
+// Whether `a` comes before `b`: they differ, and `a` holds the lowest event in which they do.
+pub fn before(a: &[u64], b: &[u64]) -> bool
+    requires { ⌜ Few (now a) × (length (now a) ≡ length (now b)) ⌝ }
+    ensures { λ r. ⌜ (r ≡ true) ↔ Before (setOf (now (a .entry))) (setOf (now (b .entry))) ⌝ }
+{
+    let i = apart(a, b);
+    if i < a.len() * 64 { has(a, i) } else { false }
+}

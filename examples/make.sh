@@ -1,0 +1,12 @@
+#!/bin/sh
+# Makes the trees of this directory from their equations, and what the program must write for each.
+# The .names files say which event and gate got which number.
+set -e
+cd "$(dirname "$0")"
+cargo build --release --offline --quiet -j1 --manifest-path ../tests/second/Cargo.toml
+second=../tests/second/target/release/second
+for tree in case1 corridor european1; do
+    $second equations $tree.txt > $tree.tree
+    $second names $tree.txt > $tree.names
+    $second program $tree.tree > $tree.out
+done

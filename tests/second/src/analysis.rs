@@ -1,0 +1,80 @@
+//! The whole analysis: 1 to 8, then 9, then 10, then 11.
+
+use crate::cut_diagram::CutDiagram;
+use crate::judge::{read, refuse, Refusal};
+use crate::lent::{Lent, Sort, MOST_NUMBERS};
+use crate::robdd::{Full, Robdd};
+use crate::tree::Tree;
+
+/// The lengths of what is lent to an analysis, in numbers.
+#[derive(Clone, Copy, Debug)]
+pub struct Lengths {
+    pub node_table: usize,
+    pub cut_table: usize,
+    pub gate_list: usize,
+    pub memo: usize,
+    /// Whether each work area has its documented smallest length.
+    pub areas_suffice: bool,
+}
+
+impl Lengths {
+    /// Room for any tree of the documents' size.
+    pub const AMPLE: Lengths =
+        Lengths { node_table: MOST_NUMBERS, cut_table: MOST_NUMBERS, gate_list: 512, memo: 0, areas_suffice: true };
+
+    pub fn of_capacities(nodes: usize, cuts: usize) -> Lengths {
+        Lengths { node_table: 3 * nodes, cut_table: 3 * cuts, ..Lengths::AMPLE }
+    }
+
+    fn keep_rules(&self, tree: &Tree) -> bool {
+        let table_fits = |length: usize| length % 3 == 0 && length <= MOST_NUMBERS;
+        table_fits(self.node_table)
+            && table_fits(self.cut_table)
+            && self.memo % 4 == 0
+            && self.gate_list as u64 >= tree.gate_count
+            && self.areas_suffice
+    }
+}
+
+/// A done analysis.
+pub struct Analysis {
+    pub tree: Tree,
+    pub robdd: Robdd,
+    pub cuts: CutDiagram,
+}
+
+pub fn analyse(bytes: &[u8], lengths: Lengths) -> Result<Analysis, Refusal> {
+    let tree = read(bytes)?;
+    if !lengths.keep_rules(&tree) {
+        return refuse(9, 0);
+    }
+    let Ok(robdd) = Robdd::build(&tree, lengths.node_table / 3) else { return refuse(10, 0) };
+    match CutDiagram::build(&robdd, lengths.cut_table / 3) {
+        Ok(cuts) => Ok(Analysis { tree, robdd, cuts }),
+        Err(Full) => refuse(11, 0),
+    }
+}
+
+impl Analysis {
+    /// The root's function diagram as it would be lent to the bracket.
+    pub fn lent_function(&self) -> Lent {
+        Lent {
+            sort: Sort::Function,
+            event_count: self.tree.event_count,
+            table: self.robdd.nodes.table(),
+            node_count: self.robdd.nodes.count() as u64,
+            root: self.robdd.root(),
+        }
+    }
+
+    /// The cut diagram as it would be lent to a listing.
+    pub fn lent_cuts(&self) -> Lent {
+        Lent {
+            sort: Sort::Cuts,
+            event_count: self.tree.event_count,
+            table: self.cuts.nodes.table(),
+            node_count: self.cuts.nodes.count() as u64,
+            root: self.cuts.root,
+        }
+    }
+}

@@ -1,0 +1,265 @@
+//! One seeded input after another: a library's answers and its lent memory against the second program.
+
+use crate::analysis::{analyse, Analysis, Lengths};
+use crate::compare_lent::{compare_bracket, compare_list};
+use crate::damage::{damaged, tree_in_memory};
+use crate::diagrams;
+use crate::generator::{self, large_shape, longest_shape, middle_shape, small_shape};
+use crate::judge::{read, write, Refusal};
+use crate::lent::{Lent, Sort};
+use crate::library::*;
+use crate::random::Random;
+use crate::renumbering::renumbering;
+use crate::tally::{hex, Tally};
+use crate::tree::Tree;
+
+/// Larger diagrams are cut off here: their inputs then ask for number 10.
+const MOST_NODES: usize = 6_000;
+
+/// The comparisons of one input.
+pub fn compare_input(library: &dyn Library, seed: u64, tally: &mut Tally) {
+    let random = &mut Random::new(seed);
+    tally.begin(seed);
+    match seed % 16 {
+        0 => compare_reading(library, &generator::bytes(random), random, tally),
+        1..=3 => {
+            let number = random.between(1, 8) as u32;
+            let bytes = damaged(random, number).bytes;
+            compare_reading(library, &bytes, random, tally);
+            if random.once_in(4) {
+                compare_analysis(library, &bytes, random, tally);
+            }
+        }
+        4 => compare_writing(library, &tree_in_memory(random), random, tally),
+        5..=9 => {
+            let shape = small_shape(random);
+            compare_tree(library, &generator::tree(random, shape), random, tally);
+        }
+        10 | 11 => {
+            let shape = match random.below(60) {
+                0 => longest_shape(),
+                1 | 2 => large_shape(random),
+                _ => middle_shape(random),
+            };
+            compare_tree(library, &generator::tree(random, shape), random, tally);
+        }
+        sort => {
+            let sort = if sort % 2 == 0 { Sort::Function } else { Sort::Cuts };
+            let nodes = random.of(&[3, 12, 40]);
+            let diagram = match random.once_in(3) {
+                true => diagrams::damaged(random, sort, nodes),
+                false => diagrams::good(random, sort, nodes),
+            };
+            compare_diagram(library, &diagram, random, tally);
+        }
+    }
+}
+
+fn compare_tree(library: &dyn Library, tree: &Tree, random: &mut Random, tally: &mut Tally) {
+    let bytes = write(tree).expect("a generated tree is accepted");
+    compare_reading(library, &bytes, random, tally);
+    compare_analysis(library, &bytes, random, tally);
+}
+
+pub fn compare_diagram(library: &dyn Library, diagram: &Lent, random: &mut Random, tally: &mut Tally) {
+    match diagram.sort {
+        Sort::Function => compare_bracket(library, diagram, None, random, tally),
+        Sort::Cuts => compare_list(library, diagram, random, tally),
+    }
+}
+
+pub fn compare_reading(library: &dyn Library, bytes: &[u8], random: &mut Random, tally: &mut Tally) {
+    tally.input = hex(bytes);
+    let got = library.read(bytes);
+    let expected = read(bytes);
+    tally.due("read", expected.as_ref().map_or_else(|refusal| refusal.number, |_| 0));
+    match expected {
+        Ok(tree) => {
+            tally.same("reading", &ReadAnswer { number: 0, place: 0, tree: tree.clone() }, &got);
+            compare_writing(library, &tree, random, tally);
+        }
+        Err(Refusal { number, place }) => {
+            tally.same("reading", ReadAnswer { number, place, tree: Tree::default() }, got);
+        }
+    }
+}
+
+/// Rooms one short, exact, longer and empty.
+pub fn compare_writing(library: &dyn Library, tree: &Tree, random: &mut Random, tally: &mut Tally) {
+    if tally.input.is_empty() {
+        tally.input = format!("{tree:?}");
+    }
+    let written = write(tree);
+    let length = written.as_ref().map_or(20, Vec::len);
+    for room_length in [length, length - 1, length + random.below(40), random.below(length)] {
+        let mut room = Guarded::new((0..room_length).map(|_| random.byte()).collect(), 0xA5);
+        let got = library.write(tree, room.lend());
+        let expected = match &written {
+            Err(Refusal { number, place }) => WriteAnswer { number: *number, place: *place, used: 0 },
+            Ok(_) if room_length < length => WriteAnswer { number: 9, place: 0, used: 0 },
+            Ok(_) => WriteAnswer { number: 0, place: 0, used: length as u64 },
+        };
+        tally.due("write", expected.number);
+        tally.same("writing", expected, got);
+        tally.holds("guards of a written tree", room.guards_stand());
+        match &written {
+            Ok(bytes) if expected.number == 0 => {
+                let whole = [&bytes[..], &room.before()[length..]].concat();
+                tally.holds("bytes of a written tree", room.now() == whole);
+            }
+            _ => tally.holds("refused writing changes nothing", room.unchanged()),
+        }
+    }
+}
+
+/// The lengths to be lent, near what the tree needs: mostly right, each wrong in some of the inputs.
+fn lengths(library: &dyn Library, need: &Result<Analysis, Refusal>, random: &mut Random) -> (Lengths, [usize; 4]) {
+    let (nodes, cuts, gates) = match need {
+        Ok(done) => (done.robdd.nodes.count(), done.cuts.nodes.count(), done.tree.gates.len()),
+        Err(_) => (random.below(MOST_NODES), random.below(200), 512),
+    };
+    let mut around = |needed: usize| match random.below(8) {
+        0 => needed.saturating_sub(1),
+        1 => random.below(needed + 1),
+        2 => needed + random.below(60),
+        3 => needed + 1,
+        _ => needed,
+    };
+    let (node_capacity, cut_capacity) = (around(nodes), around(cuts));
+    let mut bad = |length: usize| match random.below(60) {
+        0 => length + 1,
+        1 => length + 2,
+        _ => length,
+    };
+    let (mut node_table, mut cut_table) = (bad(3 * node_capacity), bad(3 * cut_capacity));
+    if random.once_in(5_000) {
+        node_table = 3_000_003;
+    }
+    if random.once_in(5_000) {
+        cut_table = 3_000_003;
+    }
+    let memo = match random.below(20) {
+        0 => random.below(40),
+        1..=6 if nodes < 60 => 0,
+        7..=9 if nodes < 300 => 4,
+        10..=12 => 4 * random.between(1, 100),
+        _ => 4 * random.between(1_000, 2_000),
+    };
+    let gate_list = match random.below(20) {
+        0 => gates.saturating_sub(1),
+        1..=4 => gates + random.below(20),
+        _ => gates,
+    };
+    let smallest = library.smallest_areas(node_table / 3, cut_table / 3);
+    let mut work = smallest.map(|least| least + if random.once_in(3) { random.below(50) } else { 0 });
+    let mut areas_suffice = true;
+    let place = random.below(4);
+    if random.once_in(20) && smallest[place] > 0 {
+        work[place] = random.below(smallest[place]).max(smallest[place] - smallest[place].min(2));
+        areas_suffice = false;
+    }
+    (Lengths { node_table, cut_table, gate_list, memo, areas_suffice }, work)
+}
+
+/// What lent memory holds at entry: anything, small numbers among it that could pass for nodes.
+fn dirty(random: &mut Random, length: usize) -> Guarded<u32> {
+    let small = random.below(3);
+    let contents = (0..length).map(|_| match small {
+        0 => random.below(8) as u32,
+        1 => random.next() as u32,
+        _ => u32::from(random.once_in(2)),
+    });
+    Guarded::new(contents.collect(), 0xDEAD_BEEF)
+}
+
+pub fn compare_analysis(library: &dyn Library, bytes: &[u8], random: &mut Random, tally: &mut Tally) {
+    tally.input = hex(bytes);
+    let need = analyse(bytes, Lengths::of_capacities(MOST_NODES, MOST_NODES));
+    let (lengths, work_lengths) = lengths(library, &need, random);
+    let expected = analyse(bytes, lengths);
+    tally.due("analyse", expected.as_ref().map_or_else(|refusal| refusal.number, |_| 0));
+    let mut nodes = dirty(random, lengths.node_table);
+    let mut cuts = dirty(random, lengths.cut_table);
+    let mut gates = dirty(random, lengths.gate_list);
+    let mut memo = dirty(random, lengths.memo);
+    let mut work = work_lengths.map(|length| dirty(random, length));
+    let areas = Areas {
+        nodes: nodes.lend(),
+        cuts: cuts.lend(),
+        gates: gates.lend(),
+        memo: memo.lend(),
+        work: work.each_mut().map(Guarded::lend),
+    };
+    tally.input += &format!(" lengths {lengths:?} work areas {work_lengths:?}");
+    let got = library.analyse(bytes, areas);
+    let all = [&nodes, &cuts, &gates, &memo, &work[0], &work[1], &work[2], &work[3]];
+    tally.holds("guards of an analysis", all.iter().all(|area| area.guards_stand()));
+    match expected {
+        Err(Refusal { number, place }) => {
+            let refused = AnalyseAnswer { number, place, nodes: 0, cut_nodes: 0, root: 0, cut_root: 0 };
+            tally.same("a refused analysis", refused, got);
+            if number <= 9 {
+                tally.holds("1 to 9 write nothing", all.iter().all(|area| area.unchanged()));
+            } else {
+                tally.holds("10 and 11 leave zero", all.iter().all(|area| area.all(0)));
+            }
+        }
+        Ok(done) => {
+            let counts = (0, 0, done.robdd.nodes.count() as u64, done.cuts.nodes.count() as u64);
+            tally.same("number, place, node counts", counts, (got.number, got.place, got.nodes, got.cut_nodes));
+            if (got.number, got.place, got.nodes, got.cut_nodes) != counts {
+                return;
+            }
+            tally.holds("memo and work areas end zero", all[3..].iter().all(|area| area.all(0)));
+            compare_tables(&done, &got, &nodes, &cuts, &gates, tally);
+            let tables = (nodes.now(), cuts.now());
+            compare_uses(library, &done, &got, tables, random, tally);
+        }
+    }
+}
+
+/// Both tables, the gate list and the roots, up to a renumbering of nodes.
+fn compare_tables(
+    done: &Analysis,
+    got: &AnalyseAnswer,
+    nodes: &Guarded<u32>,
+    cuts: &Guarded<u32>,
+    gates: &Guarded<u32>,
+    tally: &mut Tally,
+) {
+    let ours = |map: &Option<Vec<u32>>, node: u32| map.as_ref().and_then(|map| map.get(node as usize).copied());
+    let map = renumbering(nodes.now(), got.nodes as usize, &done.robdd.nodes);
+    tally.holds("the node table", map.is_some());
+    tally.same("the root", Some(done.robdd.root()), ours(&map, got.root));
+    let count = done.robdd.gate_nodes.len();
+    let listed: Vec<Option<u32>> = gates.now()[..count].iter().map(|&node| ours(&map, node)).collect();
+    let expected: Vec<Option<u32>> = done.robdd.gate_nodes.iter().map(|&node| Some(node)).collect();
+    tally.same("the gate list", expected, listed);
+    tally.holds("zeros behind the gate list", gates.now()[count..].iter().all(|&node| node == 0));
+    let map = renumbering(cuts.now(), got.cut_nodes as usize, &done.cuts.nodes);
+    tally.holds("the cut table", map.is_some());
+    tally.same("the cut root", Some(done.cuts.root), ours(&map, got.cut_root));
+}
+
+/// The library's own tables lent to its listing and its bracket.
+fn compare_uses(
+    library: &dyn Library,
+    done: &Analysis,
+    got: &AnalyseAnswer,
+    (nodes, cuts): (&[u32], &[u32]),
+    random: &mut Random,
+    tally: &mut Tally,
+) {
+    let event_count = done.tree.event_count;
+    let lent = |sort, table: &[u32], node_count, root| {
+        let diagram = Lent { sort, event_count, table: table.to_vec(), node_count, root };
+        diagram.is_diagram().then_some(diagram)
+    };
+    let function = lent(Sort::Function, nodes, got.nodes, got.root);
+    let family = lent(Sort::Cuts, cuts, got.cut_nodes, got.cut_root);
+    tally.holds("built diagrams are diagrams", function.is_some() && family.is_some());
+    if let (Some(function), Some(family)) = (function, family) {
+        compare_list(library, &family, random, tally);
+        compare_bracket(library, &function, Some(&done.tree.chances), random, tally);
+    }
+}

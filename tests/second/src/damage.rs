@@ -1,0 +1,335 @@
+//! Damaged trees: for each number 1 to 8 bytes whose number and place follow from the damage itself.
+
+use crate::generator::{longest_shape, shape, small_shape, tree};
+use crate::judge::{write, Refusal};
+use crate::random::Random;
+use crate::tree::*;
+
+pub struct Damaged {
+    pub bytes: Vec<u8>,
+    pub expected: Refusal,
+}
+
+/// A tree as its records, each with its bytes.
+type Records = Vec<Vec<u8>>;
+
+fn records(tree: &Tree) -> Records {
+    let bytes = write(tree).expect("a generated tree is accepted");
+    let mut records = Vec::new();
+    let mut place = 0;
+    while place < bytes.len() {
+        let length = [1, 5, 2, 2, 3, 2, 3, 1][bytes[place] as usize];
+        records.push(bytes[place..place + length].to_vec());
+        place += length;
+    }
+    records
+}
+
+fn offset(records: &Records, index: usize) -> u64 {
+    records[..index].iter().map(|record| record.len() as u64).sum()
+}
+
+fn of_kinds(records: &Records, kinds: &[u8]) -> Vec<usize> {
+    (0..records.len()).filter(|&index| kinds.contains(&records[index][0])).collect()
+}
+
+const GATES: [u8; 3] = [2, 3, 4];
+const INPUTS: [u8; 2] = [5, 6];
+
+fn place_of_n(record: &[u8]) -> usize {
+    record.len() - 1
+}
+
+/// Bytes that are refused with the number, 1 to 8.
+pub fn damaged(random: &mut Random, number: u32) -> Damaged {
+    let size = match random.below(40) {
+        0 => longest_shape(),
+        1 => shape(random.between(100, 256), random.between(50, 512), 64),
+        2..=9 => shape(random.between(5, 40), random.between(5, 40), 10),
+        _ => small_shape(random),
+    };
+    let whole = tree(random, size);
+    let mut all = records(&whole);
+    // From the record at fault on, anything may follow where that record decides.
+    let faulty = match number {
+        1 => return cut_short(random, all),
+        2 => unknown_kind(random, &mut all),
+        3 => return out_of_place(random, all),
+        4 => return count(random, &whole, all),
+        5 => wrong_k(random, &mut all),
+        6 => wrong_input(random, &whole, &mut all),
+        7 => wrong_chance(random, &mut all),
+        8 => return unused(random, &whole),
+        _ => panic!("no damage gives {number}"),
+    };
+    finish(random, number, all, faulty)
+}
+
+fn finish(random: &mut Random, number: u32, all: Records, faulty: usize) -> Damaged {
+    let place = offset(&all, faulty);
+    let mut bytes = all[..=faulty].concat();
+    if random.once_in(2) {
+        bytes.extend(all[faulty + 1..].concat());
+    } else {
+        bytes.extend((0..random.below(20)).map(|_| random.byte()));
+    }
+    Damaged { bytes, expected: Refusal { number, place } }
+}
+
+fn cut_short(random: &mut Random, all: Records) -> Damaged {
+    let index = random.below(all.len());
+    let place = offset(&all, index);
+    let kept = random.below(all[index].len());
+    let mut bytes = all[..index].concat();
+    bytes.extend(&all[index][..kept]);
+    Damaged { bytes, expected: Refusal { number: 1, place } }
+}
+
+fn unknown_kind(random: &mut Random, all: &mut Records) -> usize {
+    let index = random.below(all.len());
+    let kind = if random.once_in(4) { random.of(&[0, 8, 9, 0x11, 0x21, 0x22, 0xFF]) } else { random.byte() };
+    all[index][0] = if (1..=7).contains(&kind) { kind + 7 } else { kind };
+    index
+}
+
+fn out_of_place(random: &mut Random, mut all: Records) -> Damaged {
+    let gates = of_kinds(&all, &GATES);
+    let end = all.len() - 1;
+    let faulty = match random.below(5) {
+        0 => {
+            // An event after a gate, wherever; its chance no longer matters.
+            let index = random.between(gates[0] + 1, end);
+            all.insert(index, vec![1, random.byte(), random.byte(), random.byte(), random.byte()]);
+            index
+        }
+        1 => {
+            // One input too many, in front of a gate or the end; its number no longer matters.
+            let mut fronts = gates[1..].to_vec();
+            fronts.push(end);
+            let index = random.of(&fronts);
+            all.insert(index, random_input(random));
+            index
+        }
+        2 => {
+            // An input before any gate.
+            let index = random.between(0, gates[0]);
+            all.insert(index, random_input(random));
+            index
+        }
+        3 => {
+            // An input is missing where the next gate or the end comes.
+            let mut fronts = gates[1..].to_vec();
+            fronts.push(end);
+            let front = random.of(&fronts);
+            all.remove(front - 1);
+            if random.once_in(2) && all[front - 1][0] != 7 {
+                // Whatever else is wrong with that gate, 3 comes first.
+                let place = place_of_n(&all[front - 1]);
+                all[front - 1][place] = random.of(&[0, 65, 255]);
+            }
+            front - 1
+        }
+        _ => {
+            let mut bytes = all.concat();
+            let place = bytes.len() as u64;
+            bytes.extend((0..random.between(1, 9)).map(|_| random.byte()));
+            return Damaged { bytes, expected: Refusal { number: 3, place } };
+        }
+    };
+    if all[faulty][0] == 7 {
+        // Bytes behind an early end change nothing: missing inputs come first.
+        let place = offset(&all, faulty);
+        let mut bytes = all.concat();
+        bytes.extend((0..random.below(3)).map(|_| random.byte()));
+        return Damaged { bytes, expected: Refusal { number: 3, place } };
+    }
+    finish(random, 3, all, faulty)
+}
+
+fn random_input(random: &mut Random) -> Vec<u8> {
+    if random.once_in(2) {
+        vec![5, random.byte()]
+    } else {
+        vec![6, random.byte(), random.byte()]
+    }
+}
+
+fn count(random: &mut Random, whole: &Tree, mut all: Records) -> Damaged {
+    let gates = of_kinds(&all, &GATES);
+    match random.below(6) {
+        0 | 1 => {
+            let index = random.of(&gates);
+            let place = place_of_n(&all[index]);
+            all[index][place] = random.of(&[0, 65, 66, 128, 255]);
+            finish(random, 4, all, index)
+        }
+        2 => {
+            // The 257th event; its chance no longer matters.
+            let more = MOST_EVENTS + 1 - whole.events();
+            for _ in 0..more {
+                all.insert(whole.events(), vec![1, 0, 0, 0, 0]);
+            }
+            all[MOST_EVENTS][1..].fill(random.of(&[0, 0xFF]));
+            finish(random, 4, all, MOST_EVENTS)
+        }
+        3 => {
+            let events = random.below(MOST_EVENTS + 1);
+            let mut bytes = [1, 0, 0, 0, 0].repeat(events);
+            bytes.push(7);
+            Damaged { bytes, expected: Refusal { number: 4, place: 5 * events as u64 } }
+        }
+        4 => {
+            // The 513th gate.
+            all.pop();
+            for _ in gates.len()..MOST_GATES {
+                all.extend([vec![2, 1], vec![5, 0]]);
+            }
+            // That alone may pass the inputs' total, which is the same number, but earlier.
+            let index = over_total(&all).unwrap_or(all.len());
+            all.push(vec![random.of(&GATES[..2]), random.below(256) as u8]);
+            finish(random, 4, all, index)
+        }
+        _ => {
+            // More than 4,096 inputs in all.
+            all.truncate(gates[0]);
+            for _ in 0..MOST_INPUTS / 64 {
+                all.push(vec![3, 64]);
+                all.extend(vec![vec![5, 0]; 64]);
+            }
+            let index = all.len();
+            all.push(vec![2, random.between(1, 64) as u8]);
+            finish(random, 4, all, index)
+        }
+    }
+}
+
+fn over_total(all: &Records) -> Option<usize> {
+    let mut total = 0;
+    of_kinds(all, &GATES).into_iter().find(|&index| {
+        total += *all[index].last().expect("a record has bytes") as usize;
+        total > MOST_INPUTS
+    })
+}
+
+fn wrong_k(random: &mut Random, all: &mut Records) -> usize {
+    let index = random.of(&of_kinds(all, &GATES));
+    let n = *all[index].last().expect("a record has bytes");
+    let k = random.of(&[0, n + 1, n + 1, 200, 255]);
+    all[index] = vec![4, k, n];
+    index
+}
+
+fn wrong_input(random: &mut Random, whole: &Tree, all: &mut Records) -> usize {
+    let index = random.of(&of_kinds(all, &INPUTS));
+    let own = of_kinds(&all[..index].to_vec(), &GATES).len() - 1;
+    let events = whole.events();
+    if random.once_in(2) && events < MOST_EVENTS {
+        let beyond = random.between(events, 255);
+        all[index] = vec![5, random.of(&[events as u8, 255, beyond as u8])];
+    } else {
+        let gate = random.of(&[own as u16, own as u16 + 1, 0xFFFF, 512, own as u16 | 0x100]);
+        all[index] = [vec![6], gate.to_le_bytes().to_vec()].concat();
+        if (gate as usize) < own {
+            all[index] = vec![6, 0xFF, 0xFF];
+        }
+    }
+    index
+}
+
+fn wrong_chance(random: &mut Random, all: &mut Records) -> usize {
+    let index = random.of(&of_kinds(all, &[1]));
+    let over = D as usize + 1 + random.below(u32::MAX as usize - D as usize);
+    let chance = random.of(&[D + 1, D + 2, u32::MAX, over as u32]);
+    all[index] = [vec![1], chance.to_le_bytes().to_vec()].concat();
+    index
+}
+
+/// Every use of one item is turned into a use of another.
+fn unused(random: &mut Random, whole: &Tree) -> Damaged {
+    let mut tree = whole.clone();
+    let gates = tree.gates.len();
+    let lost = if gates > 1 && random.once_in(2) {
+        FIRST_GATE_INPUT + random.below(gates - 1) as u32
+    } else if tree.events() > 1 {
+        random.below(tree.events()) as u32
+    } else {
+        // A further event that nothing uses.
+        tree.chances.push(0);
+        tree.event_count += 1;
+        1
+    };
+    let other = if lost == 0 { 1 } else { 0 };
+    for input in &mut tree.inputs {
+        if *input == lost {
+            *input = other;
+        }
+    }
+    let bytes = raw_bytes(&tree);
+    let place = if lost < FIRST_GATE_INPUT {
+        5 * lost as u64
+    } else {
+        let gate = (lost - FIRST_GATE_INPUT) as usize;
+        let shorter = Tree { gates: tree.gates[..gate].to_vec(), gate_count: gate as u64, ..tree };
+        raw_bytes(&shorter).len() as u64 - 1
+    };
+    Damaged { bytes, expected: Refusal { number: 8, place } }
+}
+
+/// The records of a tree as bytes without any judgement; fields are cut to their bytes.
+pub fn raw_bytes(tree: &Tree) -> Vec<u8> {
+    let mut bytes = Vec::new();
+    for &chance in &tree.chances {
+        bytes.push(1);
+        bytes.extend(chance.to_le_bytes());
+    }
+    for (gate, inputs) in tree.gates.iter().zip(tree.inputs_by_gate()) {
+        bytes.push(gate.kind as u8);
+        if gate.kind == AT_LEAST {
+            bytes.push(gate.k as u8);
+        }
+        bytes.push(gate.n as u8);
+        for input in inputs {
+            match input {
+                Input::Event(event) => bytes.extend([5, event as u8]),
+                Input::Gate(gate) => {
+                    bytes.push(6);
+                    bytes.extend((gate as u16).to_le_bytes());
+                }
+            }
+        }
+    }
+    bytes.push(7);
+    bytes
+}
+
+/// A tree in memory that may break any rule, also such as no bytes can.
+pub fn tree_in_memory(random: &mut Random) -> Tree {
+    let size = if random.once_in(30) { longest_shape() } else { small_shape(random) };
+    let mut tree = tree(random, size);
+    if random.once_in(4) {
+        return tree;
+    }
+    let event = random.below(tree.chances.len());
+    let gate = random.below(tree.gates.len());
+    let input = random.below(tree.inputs.len());
+    let large = random.next() as u32;
+    match random.below(12) {
+        0 => tree.event_count += random.of(&[1, 2, 300, u32::MAX as u64]),
+        1 => tree.gate_count += random.of(&[1, 2, 600, u32::MAX as u64]),
+        2 => tree.event_count = random.below(tree.chances.len() + 1) as u64,
+        3 => tree.gate_count = random.below(tree.gates.len() + 1) as u64,
+        4 => tree.chances[event] = random.of(&[D + 1, u32::MAX, large]),
+        5 => tree.gates[gate].kind = random.of(&[0, 1, 5, 6, 7, 255, 258, large]),
+        6 => tree.gates[gate].n = random.of(&[0, 1, 2, 64, 65, 256, 257, u32::MAX, large]),
+        7 => {
+            let k = random.of(&[0, 1, 64, 65, 256, 257, u32::MAX, large]);
+            tree.gates[gate].k = k;
+            tree.gates[gate].kind = random.of(&[AND, OR, AT_LEAST]);
+        }
+        8 => tree.inputs[input] = random.of(&[0, 255, 256, 256 + gate as u32, 511, 768, 0x1_0100, u32::MAX, large]),
+        9 => tree.inputs[input] = random.below(600) as u32,
+        10 => tree.chances.truncate(event),
+        _ => tree.inputs.truncate(input),
+    }
+    tree
+}

@@ -1,0 +1,209 @@
+//! Seeded inputs: bytes, accepted trees of every size, chances, starts and rooms.
+
+use crate::random::Random;
+use crate::sets::Set;
+use crate::tree::*;
+
+/// What a tree to be made should look like.
+#[derive(Clone, Copy, Debug)]
+pub struct Shape {
+    pub events: usize,
+    pub gates: usize,
+    /// The most inputs to a gate.
+    pub widest: usize,
+    /// The sum of all inputs where the tree allows it; 0 leaves it to chance.
+    pub inputs: usize,
+    pub kinds: Kinds,
+    /// Inputs beyond those that bring an item to its first use come from this many latest items;
+    /// small numbers keep diagrams narrow.
+    pub reach: usize,
+    /// Whether those further inputs are gates only.
+    pub only_gates_again: bool,
+}
+
+#[derive(Clone, Copy, Debug, PartialEq, Eq)]
+pub enum Kinds {
+    All,
+    OnlyAtLeast,
+}
+
+pub fn shape(events: usize, gates: usize, widest: usize) -> Shape {
+    Shape { events, gates, widest, inputs: 0, kinds: Kinds::All, reach: usize::MAX, only_gates_again: false }
+}
+
+/// Small enough for the brute force.
+pub fn small_shape(random: &mut Random) -> Shape {
+    shape(random.between(1, 6), random.between(1, 8), random.between(2, 6))
+}
+
+/// From a few events to some dozens; these have diagrams of up to some thousands of nodes.
+pub fn middle_shape(random: &mut Random) -> Shape {
+    let reach = random.between(2, 12);
+    // Half of them use each item once only; otherwise inputs that come again absorb much of the tree.
+    let inputs = random.below(2);
+    Shape { reach, inputs, ..shape(random.between(4, 40), random.between(3, 50), random.between(3, 9)) }
+}
+
+/// Up to the limits; mostly too large for any table.
+pub fn large_shape(random: &mut Random) -> Shape {
+    let gates = random.between(64, MOST_GATES);
+    let reach = random.between(2, 40);
+    let inputs = if random.once_in(2) { random.between(gates, MOST_INPUTS) } else { 0 };
+    let widest = random.between(8, MOST_INPUTS_OF_A_GATE);
+    Shape { reach, inputs, ..shape(random.between(64, MOST_EVENTS), gates, widest) }
+}
+
+/// All counts at their maximum: 256 events, 512 gates, 4,096 inputs, and 14,849 bytes, since every gate
+/// is an at-least and every event is an input once only.
+pub fn longest_shape() -> Shape {
+    Shape {
+        inputs: MOST_INPUTS,
+        kinds: Kinds::OnlyAtLeast,
+        reach: 24,
+        only_gates_again: true,
+        ..shape(MOST_EVENTS, MOST_GATES, MOST_INPUTS_OF_A_GATE)
+    }
+}
+
+pub fn chance(random: &mut Random) -> u32 {
+    match random.below(8) {
+        0 => random.of(&[0, 1, 2, D - 2, D - 1, D, D / 2, D / 3]),
+        1 => random.below(100) as u32,
+        2 | 3 => random.below(50_000_000) as u32,
+        _ => random.below(D as usize + 1) as u32,
+    }
+}
+
+pub fn chances(random: &mut Random, events: usize) -> Vec<u32> {
+    (0..events).map(|_| chance(random)).collect()
+}
+
+/// An accepted tree. At most 64 items may wait for their first use at the root, so the number of events
+/// must be below 64 for a single gate; the shapes above are, or have gates enough.
+pub fn tree(random: &mut Random, shape: Shape) -> Tree {
+    let widest = shape.widest.clamp(2, MOST_INPUTS_OF_A_GATE);
+    let firsts = first_uses(random, shape.events, shape.gates, widest);
+    let widths = widths(random, &shape, &firsts);
+    let mut tree = Tree::of_chances(&chances(random, shape.events));
+    let mut unused: Vec<Input> = (0..shape.events as u32).map(Input::Event).collect();
+    // Events come into use roughly in order, so that neighbours in the tree are neighbours in the order.
+    unused.reverse();
+    for gate in 0..shape.gates {
+        let mut inputs = Vec::new();
+        for _ in 0..firsts[gate] {
+            let from_end = random.below(unused.len().min(shape.reach.clamp(2, 1 << 20)));
+            let place = unused.len() - 1 - from_end;
+            inputs.push(unused.remove(place));
+        }
+        while inputs.len() < widths[gate] {
+            inputs.push(again(random, &shape, gate));
+        }
+        for place in (1..inputs.len()).rev() {
+            inputs.swap(place, random.below(place + 1));
+        }
+        let kind = match shape.kinds {
+            Kinds::All => random.of(&[AND, OR, AT_LEAST]),
+            Kinds::OnlyAtLeast => AT_LEAST,
+        };
+        let k = if kind == AT_LEAST { random.between(1, inputs.len()) as u32 } else { 0 };
+        unused.push(Input::Gate(tree.add_gate(kind, k, &inputs)));
+    }
+    tree
+}
+
+/// How many items each gate is the first to use: all events and all gates but the root in the end.
+fn first_uses(random: &mut Random, events: usize, gates: usize, widest: usize) -> Vec<usize> {
+    let mut waiting = events;
+    let mut firsts = Vec::new();
+    for gate in 0..gates {
+        let later = gates - gate - 1;
+        let most = waiting.min(widest).max(1);
+        let most = if later == 0 { waiting } else { most };
+        // The later gates must be able to take the rest, and each but the root adds one to it.
+        let must = if later == 0 { waiting } else { (waiting + later).saturating_sub(later * widest) };
+        // The first gate has only events, so it takes one for the first time.
+        let least = if gate == 0 { must.max(1) } else { must };
+        let fair = (waiting + later).div_ceil(later + 1);
+        let wish = random.between(0, 2 * fair);
+        let taken = wish.clamp(least.min(most), most);
+        firsts.push(taken);
+        waiting = waiting - taken + 1;
+    }
+    firsts
+}
+
+/// The number of inputs of each gate: its first uses, and some more.
+fn widths(random: &mut Random, shape: &Shape, firsts: &[usize]) -> Vec<usize> {
+    let mut widths: Vec<usize> = firsts.iter().map(|&taken| taken.max(1)).collect();
+    let mut total: usize = widths.iter().sum();
+    let aim = if shape.inputs > 0 { shape.inputs } else { total + random.below(shape.gates + 1) };
+    let mut tries = 0;
+    while total < aim.min(MOST_INPUTS) && tries < 20 * MOST_INPUTS {
+        tries += 1;
+        let gate = random.below(shape.gates);
+        let can_grow = widths[gate] < shape.widest.clamp(2, MOST_INPUTS_OF_A_GATE);
+        if can_grow && !(gate == 0 && shape.only_gates_again) {
+            widths[gate] += 1;
+            total += 1;
+        }
+    }
+    widths
+}
+
+/// A further use of an event or of an earlier gate.
+fn again(random: &mut Random, shape: &Shape, gate: usize) -> Input {
+    if gate > 0 && (shape.only_gates_again || random.once_in(2)) {
+        let back = random.below(gate.min(shape.reach));
+        return Input::Gate((gate - 1 - back) as u32);
+    }
+    // The events that come into use around this gate.
+    let about = gate * shape.events / shape.gates;
+    let near = about + random.below(shape.reach.min(shape.events));
+    Input::Event(near.min(shape.events - 1) as u32)
+}
+
+/// Bytes without a plan, most of them among the known kinds so that some get past the first record.
+pub fn bytes(random: &mut Random) -> Vec<u8> {
+    let length = match random.below(4) {
+        0 => random.below(4),
+        1 => random.below(16),
+        2 => random.below(64),
+        _ => random.below(300),
+    };
+    let small = random.once_in(2);
+    (0..length).map(|_| if small { random.below(9) as u8 } else { random.byte() }).collect()
+}
+
+/// A start: from the beginning, after a set of the events, after a cut or near one, or after a set that
+/// names an event beyond them.
+pub fn start(random: &mut Random, events: usize, cuts: &[Set]) -> Option<Set> {
+    match random.below(8) {
+        0 | 1 => None,
+        2 => Some(Set::EMPTY),
+        3 | 4 if !cuts.is_empty() => Some(random.of(cuts)),
+        5 if !cuts.is_empty() => {
+            let mut near = random.of(cuts);
+            let event = random.below(events);
+            near.0[event / 64] ^= 1 << (event % 64);
+            Some(near)
+        }
+        6 if events < 256 => Some(Set::EMPTY.with(random.between(events, 255) as u32)),
+        _ => {
+            let often = random.between(1, 4);
+            let members = (0..events as u32).filter(|_| random.once_in(often));
+            Some(members.fold(Set::EMPTY, Set::with))
+        }
+    }
+}
+
+/// A room in bytes, mostly near the length of a few cuts.
+pub fn room(random: &mut Random, whole: usize) -> usize {
+    match random.below(6) {
+        0 => random.below(4),
+        1 => random.below(16),
+        2 => whole,
+        3 => whole.saturating_sub(1),
+        4 => random.below(whole + 2),
+        _ => whole + random.below(600),
+    }
+}

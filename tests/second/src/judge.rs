@@ -1,0 +1,240 @@
+//! Tree records: decoding, numbers 1 to 8 with their places, reading and writing.
+//!
+//! The judge takes records with plain numbers as fields, one after another, so that bytes and trees
+//! in memory (some of which no bytes can hold) are refused by the same rules.
+
+use crate::tree::*;
+
+#[derive(Clone, Copy, Debug, PartialEq, Eq, PartialOrd, Ord, Hash)]
+pub struct Refusal {
+    pub number: u32,
+    pub place: u64,
+}
+
+pub fn refuse<T>(number: u32, place: u64) -> Result<T, Refusal> {
+    Err(Refusal { number, place })
+}
+
+#[derive(Clone, Copy, Debug, PartialEq, Eq)]
+enum Record {
+    Event(u64),
+    Gate { kind: u32, k: u64, n: u64 },
+    EventInput(u64),
+    GateInput(u64),
+    End,
+}
+
+/// Bytes of the body, by kind; `None` for an unknown kind.
+fn body_length(kind: u32) -> Option<usize> {
+    match kind {
+        1 => Some(4),
+        2 | 3 | 5 => Some(1),
+        4 | 6 => Some(2),
+        7 => Some(0),
+        _ => None,
+    }
+}
+
+/// The record at `place` and its length: 2 before 1.
+fn decode(bytes: &[u8], place: usize) -> Result<(Record, usize), Refusal> {
+    let kind = bytes[place] as u32;
+    let Some(length) = body_length(kind) else { return refuse(2, place as u64) };
+    let Some(body) = bytes.get(place + 1..place + 1 + length) else { return refuse(1, place as u64) };
+    let low_first = |part: &[u8]| part.iter().rev().fold(0u64, |n, &b| n * 256 + b as u64);
+    let record = match kind {
+        1 => Record::Event(low_first(body)),
+        2 | 3 => Record::Gate { kind, k: 0, n: body[0] as u64 },
+        4 => Record::Gate { kind, k: body[0] as u64, n: body[1] as u64 },
+        5 => Record::EventInput(body[0] as u64),
+        6 => Record::GateInput(low_first(body)),
+        _ => Record::End,
+    };
+    Ok((record, 1 + length))
+}
+
+/// What the records so far have declared, and where.
+#[derive(Default)]
+struct Judge {
+    tree: Tree,
+    event_places: Vec<u64>,
+    gate_places: Vec<u64>,
+    missing_inputs: u64,
+    total_inputs: u64,
+}
+
+impl Judge {
+    /// Every record but the end: 3, then 4, then 5, 6 or 7.
+    fn take(&mut self, record: Record, place: u64) -> Result<(), Refusal> {
+        match record {
+            Record::Event(chance) => {
+                if !self.tree.gates.is_empty() {
+                    return refuse(3, place);
+                }
+                if self.tree.chances.len() == MOST_EVENTS {
+                    return refuse(4, place);
+                }
+                if chance > D as u64 {
+                    return refuse(7, place);
+                }
+                self.tree.chances.push(chance as u32);
+                self.event_places.push(place);
+            }
+            Record::Gate { kind, k, n } => {
+                if self.missing_inputs > 0 {
+                    return refuse(3, place);
+                }
+                let total = self.total_inputs.saturating_add(n);
+                if self.tree.gates.len() == MOST_GATES
+                    || n == 0
+                    || n > MOST_INPUTS_OF_A_GATE as u64
+                    || total > MOST_INPUTS as u64
+                {
+                    return refuse(4, place);
+                }
+                if kind == AT_LEAST && (k == 0 || k > n) {
+                    return refuse(5, place);
+                }
+                self.missing_inputs = n;
+                self.total_inputs = total;
+                let k = if kind == AT_LEAST { k as u32 } else { 0 };
+                self.tree.gates.push(Gate { kind, k, n: n as u32 });
+                self.gate_places.push(place);
+            }
+            Record::EventInput(event) => {
+                if self.missing_inputs == 0 {
+                    return refuse(3, place);
+                }
+                if event >= self.tree.chances.len() as u64 {
+                    return refuse(6, place);
+                }
+                self.tree.inputs.push(event as u32);
+                self.missing_inputs -= 1;
+            }
+            Record::GateInput(gate) => {
+                if self.missing_inputs == 0 {
+                    return refuse(3, place);
+                }
+                let own = self.tree.gates.len() as u64 - 1;
+                if gate >= own {
+                    return refuse(6, place);
+                }
+                self.tree.inputs.push(FIRST_GATE_INPUT + gate as u32);
+                self.missing_inputs -= 1;
+            }
+            Record::End => unreachable!("the end record has its own judgement"),
+        }
+        Ok(())
+    }
+
+    /// The end record: missing inputs, then bytes after it, then 4, then 8.
+    fn end(mut self, place: u64, bytes_follow: bool) -> Result<Tree, Refusal> {
+        if self.missing_inputs > 0 {
+            return refuse(3, place);
+        }
+        if bytes_follow {
+            return refuse(3, place + 1);
+        }
+        if self.tree.chances.is_empty() || self.tree.gates.is_empty() {
+            return refuse(4, place);
+        }
+        if let Some(unused) = self.place_of_unused() {
+            return refuse(8, unused);
+        }
+        self.tree.event_count = self.tree.chances.len() as u64;
+        self.tree.gate_count = self.tree.gates.len() as u64;
+        Ok(self.tree)
+    }
+
+    /// The declaring record of the lowest unused event, else of the lowest unused gate but the root.
+    fn place_of_unused(&self) -> Option<u64> {
+        let used = |number: u32| self.tree.inputs.contains(&number);
+        for (event, &place) in self.event_places.iter().enumerate() {
+            if !used(event as u32) {
+                return Some(place);
+            }
+        }
+        let root = self.gate_places.len() - 1;
+        for (gate, &place) in self.gate_places[..root].iter().enumerate() {
+            if !used(FIRST_GATE_INPUT + gate as u32) {
+                return Some(place);
+            }
+        }
+        None
+    }
+}
+
+/// Bytes to a tree.
+pub fn read(bytes: &[u8]) -> Result<Tree, Refusal> {
+    let mut judge = Judge::default();
+    let mut place = 0;
+    while place < bytes.len() {
+        let (record, length) = decode(bytes, place)?;
+        if record == Record::End {
+            return judge.end(place as u64, place + 1 < bytes.len());
+        }
+        judge.take(record, place as u64)?;
+        place += length;
+    }
+    refuse(1, bytes.len() as u64)
+}
+
+/// A tree to its bytes, refused as those bytes would be.
+pub fn write(tree: &Tree) -> Result<Vec<u8>, Refusal> {
+    let mut judge = Judge::default();
+    let mut bytes: Vec<u8> = Vec::new();
+    for event in 0..tree.event_count {
+        let chance = tree.chance(event);
+        judge.take(Record::Event(chance as u64), bytes.len() as u64)?;
+        bytes.push(1);
+        bytes.extend(chance.to_le_bytes());
+    }
+    let mut next_input = 0;
+    for number in 0..tree.gate_count {
+        let gate = tree.gate(number);
+        let place = bytes.len() as u64;
+        if ![AND, OR, AT_LEAST].contains(&gate.kind) {
+            return refuse(2, place);
+        }
+        judge.take(Record::Gate { kind: gate.kind, k: gate.k as u64, n: gate.n as u64 }, place)?;
+        bytes.push(gate.kind as u8);
+        if gate.kind == AT_LEAST {
+            bytes.push(gate.k as u8);
+        }
+        bytes.push(gate.n as u8);
+        for _ in 0..gate.n {
+            write_input(tree.input(next_input), &mut judge, &mut bytes)?;
+            next_input += 1;
+        }
+    }
+    let place = bytes.len() as u64;
+    bytes.push(7);
+    judge.end(place, false)?;
+    Ok(bytes)
+}
+
+fn write_input(input: Input, judge: &mut Judge, bytes: &mut Vec<u8>) -> Result<(), Refusal> {
+    let place = bytes.len() as u64;
+    match input {
+        Input::Event(event) => {
+            judge.take(Record::EventInput(event as u64), place)?;
+            bytes.extend([5, event as u8]);
+        }
+        Input::Gate(gate) => {
+            judge.take(Record::GateInput(gate as u64), place)?;
+            bytes.push(6);
+            bytes.extend((gate as u16).to_le_bytes());
+        }
+    }
+    Ok(())
+}
+
+/// Writing into a lent room: the tree's own fault first, then 9 for a short room, which then stays as
+/// it was; behind the bytes it stays in any case. Answers the number of bytes written.
+pub fn write_into(tree: &Tree, room: &mut [u8]) -> Result<usize, Refusal> {
+    let bytes = write(tree)?;
+    if room.len() < bytes.len() {
+        return refuse(9, 0);
+    }
+    room[..bytes.len()].copy_from_slice(&bytes);
+    Ok(bytes.len())
+}

@@ -1,0 +1,113 @@
+//! What a comparison asks of an analyser: the five public calls on plain data and lent memory.
+//! A binding to a linked library implements this; so does the mirror, for trying out the comparison.
+
+use crate::lent::Lent;
+use crate::sets::Set;
+use crate::tree::Tree;
+
+#[derive(Clone, Debug, PartialEq, Eq)]
+pub struct ReadAnswer {
+    pub number: u32,
+    pub place: u64,
+    /// The empty tree in a refusal.
+    pub tree: Tree,
+}
+
+#[derive(Clone, Copy, Debug, PartialEq, Eq)]
+pub struct WriteAnswer {
+    pub number: u32,
+    pub place: u64,
+    pub used: u64,
+}
+
+#[derive(Clone, Copy, Debug, PartialEq, Eq)]
+pub struct AnalyseAnswer {
+    pub number: u32,
+    pub place: u64,
+    pub nodes: u64,
+    pub cut_nodes: u64,
+    pub root: u32,
+    pub cut_root: u32,
+}
+
+#[derive(Clone, Copy, Debug, PartialEq, Eq)]
+pub struct ListAnswer {
+    pub number: u32,
+    pub written: u64,
+    pub used: u64,
+    pub last: Set,
+    pub finished: bool,
+}
+
+#[derive(Clone, Copy, Debug, PartialEq, Eq)]
+pub struct BracketAnswer {
+    pub number: u32,
+    pub low: u32,
+    pub high: u32,
+}
+
+/// What an analysis is lent.
+pub struct Areas<'a> {
+    pub nodes: &'a mut [u32],
+    pub cuts: &'a mut [u32],
+    pub gates: &'a mut [u32],
+    pub memo: &'a mut [u32],
+    pub work: [&'a mut [u32]; 4],
+}
+
+pub trait Library {
+    /// The documented smallest lengths of the work areas; an area that isn't asked for has 0.
+    fn smallest_areas(&self, node_capacity: usize, cut_capacity: usize) -> [usize; 4];
+    fn smallest_bracket_areas(&self, capacity: usize) -> [usize; 2];
+
+    fn read(&self, bytes: &[u8]) -> ReadAnswer;
+    fn write(&self, tree: &Tree, room: &mut [u8]) -> WriteAnswer;
+    fn analyse(&self, bytes: &[u8], areas: Areas) -> AnalyseAnswer;
+    /// `None` is "from the beginning".
+    fn list(&self, diagram: &Lent, after: Option<Set>, room: &mut [u8]) -> ListAnswer;
+    fn bracket(&self, diagram: &Lent, chances: &[u32], work: [&mut [u32]; 2]) -> BracketAnswer;
+}
+
+/// Memory with guards on both sides that remembers what it held when it was lent.
+pub struct Guarded<T> {
+    whole: Vec<T>,
+    before: Vec<T>,
+    guard: T,
+}
+
+const GUARDS: usize = 4;
+
+impl<T: Copy + PartialEq> Guarded<T> {
+    pub fn new(contents: Vec<T>, guard: T) -> Guarded<T> {
+        let mut whole = vec![guard; GUARDS];
+        whole.extend(&contents);
+        whole.extend(vec![guard; GUARDS]);
+        Guarded { whole, before: contents, guard }
+    }
+
+    pub fn lend(&mut self) -> &mut [T] {
+        let end = GUARDS + self.before.len();
+        &mut self.whole[GUARDS..end]
+    }
+
+    pub fn now(&self) -> &[T] {
+        &self.whole[GUARDS..GUARDS + self.before.len()]
+    }
+
+    pub fn before(&self) -> &[T] {
+        &self.before
+    }
+
+    pub fn unchanged(&self) -> bool {
+        self.now() == self.before
+    }
+
+    pub fn all(&self, value: T) -> bool {
+        self.now().iter().all(|&now| now == value)
+    }
+
+    pub fn guards_stand(&self) -> bool {
+        let end = GUARDS + self.before.len();
+        self.whole[..GUARDS].iter().chain(&self.whole[end..]).all(|&guard| guard == self.guard)
+    }
+}

@@ -1,0 +1,196 @@
+//! The command line of the second program.
+
+use second::analysis::{analyse, Lengths};
+use second::bracket::{bracket, events_reached};
+use second::brute;
+use second::brute_cuts;
+use second::city;
+use second::equations::tree_of;
+use second::generator::{middle_shape, tree};
+use second::judge::{read, write, Refusal};
+use second::listing::list;
+use second::program::{program, report};
+use second::random::Random;
+use std::io::{self, Read, Write};
+use std::process::exit;
+
+const USAGE: &str = "second judge FILE              accepted, or refused with number and place
+second analyse FILE [NODES [CUTS]]  the program's report; capacities in nodes, else as large as allowed
+second counts FILE             counts only, without the list of cuts
+second brute FILE              nodes by gate, cut nodes and cuts by truth tables; 12 events or so
+second plain FILE [ROOM MOST]  what bench/plain prints: cuts in rooms of ROOM bytes until MOST are written
+second program FILE            what the program of document 01 writes
+second equations FILE          the bytes of a tree written in equations
+second names FILE              the numbers that those equations' names get
+second city small|middle|large the equations of a city-like tree
+second random SEED             the bytes of a seeded tree of middle size
+a FILE of - is the standard input";
+
+fn main() {
+    let words: Vec<String> = std::env::args().skip(1).collect();
+    if words.len() < 2 {
+        eprintln!("{USAGE}");
+        exit(2);
+    }
+    let out = &mut io::BufWriter::new(io::stdout().lock());
+    if words[0] == "city" {
+        let _ = city(&words[1], out).and_then(|()| out.flush());
+        return;
+    }
+    if words[0] == "random" {
+        let random = &mut Random::new(number(&words[1]) as u64);
+        let shape = middle_shape(random);
+        let _ = out.write_all(&write(&tree(random, shape)).expect("a generated tree is accepted"));
+        return;
+    }
+    let bytes = contents(&words[1]);
+    let capacity = |at: usize| words.get(at).map_or(1_000_000, number);
+    let done = match words[0].as_str() {
+        "judge" => judge(&bytes, out),
+        "analyse" => report(&bytes, Lengths::of_capacities(capacity(2), capacity(3)), true, out),
+        "counts" => counts(&bytes, out),
+        "brute" => brute(&bytes, out),
+        "plain" => plain(&bytes, words.get(2).map_or(65_536, number), words.get(3).map_or(100_000, number), out),
+        "program" => program(&bytes, out),
+        "equations" => equations(&bytes, out),
+        "names" => names(&bytes, out),
+        other => {
+            eprintln!("unknown: {other}\n{USAGE}");
+            exit(2);
+        }
+    };
+    // A closed pipe isn't worth a report.
+    let _ = done.and_then(|()| out.flush());
+}
+
+fn contents(file: &str) -> Vec<u8> {
+    let mut bytes = Vec::new();
+    let read = match file {
+        "-" => io::stdin().read_to_end(&mut bytes).map(|_| ()),
+        _ => std::fs::read(file).map(|read| bytes = read),
+    };
+    if let Err(fault) = read {
+        eprintln!("{file}: {fault}");
+        exit(2);
+    }
+    bytes
+}
+
+fn judge(bytes: &[u8], out: &mut dyn Write) -> io::Result<()> {
+    match read(bytes) {
+        Ok(tree) => writeln!(
+            out,
+            "accepted: {} events, {} gates, {} inputs",
+            tree.event_count,
+            tree.gate_count,
+            tree.inputs.len()
+        ),
+        Err(Refusal { number, place }) => writeln!(out, "refused {number} at {place}"),
+    }
+}
+
+fn counts(bytes: &[u8], out: &mut dyn Write) -> io::Result<()> {
+    let done = match analyse(bytes, Lengths::AMPLE) {
+        Ok(done) => done,
+        Err(Refusal { number, place }) => return writeln!(out, "refused {number} at {place}"),
+    };
+    let top = bracket(&done.lent_function(), &done.tree.chances, true);
+    writeln!(out, "bytes {}", bytes.len())?;
+    writeln!(out, "events {}", done.tree.event_count)?;
+    writeln!(out, "gates {}", done.tree.gate_count)?;
+    writeln!(out, "nodes {}", done.robdd.nodes.count())?;
+    writeln!(out, "root reaches {}", done.robdd.nodes.reached(done.robdd.root()).len())?;
+    writeln!(out, "cut nodes {}", done.cuts.nodes.count())?;
+    writeln!(out, "cut root reaches {}", done.cuts.nodes.reached(done.cuts.root).len())?;
+    writeln!(out, "cuts {}", done.cuts.cut_count().decimal())?;
+    writeln!(out, "L {}", events_reached(&done.lent_function()))?;
+    writeln!(out, "top {} {}", top.low, top.high)
+}
+
+fn number(word: &String) -> usize {
+    word.parse().expect("a number")
+}
+
+/// The definitions themselves, without any diagram.
+fn brute(bytes: &[u8], out: &mut dyn Write) -> io::Result<()> {
+    let tree = match read(bytes) {
+        Ok(tree) if tree.events() <= 16 => tree,
+        Ok(_) => return writeln!(out, "too many events"),
+        Err(Refusal { number, place }) => return writeln!(out, "refused {number} at {place}"),
+    };
+    let functions = brute::functions(&tree);
+    let root = functions.of_gates.last().expect("a tree has a gate");
+    writeln!(out, "nodes by gate {:?}", functions.nodes_needed)?;
+    writeln!(out, "cut nodes {}", brute_cuts::cut_nodes_needed(root, tree.events()))?;
+    writeln!(out, "cuts")?;
+    for cut in brute_cuts::in_order(&brute_cuts::minimal_cuts(root)) {
+        writeln!(out, "{:?}", cut.members())?;
+    }
+    writeln!(out, "S {}", brute::exact_chance(root, &tree.chances).decimal())
+}
+
+/// The yardstick's output, so that the two can be compared line by line.
+fn plain(bytes: &[u8], room: usize, most: usize, out: &mut dyn Write) -> io::Result<()> {
+    let done = match analyse(bytes, Lengths::AMPLE) {
+        Ok(done) => done,
+        Err(Refusal { number, place }) => return writeln!(out, "refused {number} at {place}"),
+    };
+    writeln!(out, "events {}\ngates {}", done.tree.event_count, done.tree.gate_count)?;
+    writeln!(out, "nodes {}\ncut nodes {}", done.robdd.nodes.count(), done.cuts.nodes.count())?;
+    let diagram = done.lent_cuts();
+    let (mut written, mut used, mut sum, mut start) = (0, 0, 0u64, None);
+    let finished = loop {
+        let listing = list(&diagram, start, room);
+        written += listing.written;
+        used += listing.bytes.len();
+        sum = listing.bytes.iter().fold(sum, |sum, &byte| sum.wrapping_mul(31).wrapping_add(byte as u64));
+        start = Some(listing.last);
+        if listing.number != 0 || listing.finished || written >= most {
+            break listing.finished;
+        }
+    };
+    writeln!(out, "cuts {written} bytes {used} sum {sum:016x}{}", if finished { " finished" } else { "" })?;
+    let top = bracket(&done.lent_function(), &done.tree.chances, true);
+    writeln!(out, "top {} {}", top.low, top.high)
+}
+
+fn city(size: &str, out: &mut dyn Write) -> io::Result<()> {
+    let city = match size {
+        "small" => city::SMALL,
+        "middle" => city::MIDDLE,
+        "large" => city::LARGE,
+        _ => {
+            eprintln!("{USAGE}");
+            exit(2);
+        }
+    };
+    write!(out, "{}", city::equations(city))
+}
+
+fn named(bytes: &[u8]) -> second::equations::Named {
+    tree_of(&String::from_utf8_lossy(bytes)).unwrap_or_else(|fault| {
+        eprintln!("{fault}");
+        exit(2);
+    })
+}
+
+fn equations(bytes: &[u8], out: &mut dyn Write) -> io::Result<()> {
+    match write(&named(bytes).tree) {
+        Ok(bytes) => out.write_all(&bytes),
+        Err(Refusal { number, place }) => {
+            eprintln!("refused {number} at {place}");
+            exit(1);
+        }
+    }
+}
+
+fn names(bytes: &[u8], out: &mut dyn Write) -> io::Result<()> {
+    let named = named(bytes);
+    for (number, name) in named.event_names.iter().enumerate() {
+        writeln!(out, "event {number} {name} {}", named.tree.chances[number])?;
+    }
+    for (number, name) in named.gate_names.iter().enumerate() {
+        writeln!(out, "gate {number} {name}")?;
+    }
+    Ok(())
+}

@@ -1,0 +1,107 @@
+//! The second program behind the calls of a library: it keeps every promise about lent memory, so that
+//! the comparison can be tried on it, and on wrong programs made from it.
+
+use crate::analysis::{analyse, Lengths};
+use crate::bracket::bracket;
+use crate::judge::{read, write_into, Refusal};
+use crate::lent::Lent;
+use crate::library::*;
+use crate::listing::list;
+use crate::sets::Set;
+use crate::tree::Tree;
+
+pub struct Mirror;
+
+fn fill(area: &mut [u32], numbers: &[u32]) {
+    area.fill(0);
+    area[..numbers.len()].copy_from_slice(numbers);
+}
+
+impl Mirror {
+    pub fn lengths(areas: &Areas, smallest: [usize; 4]) -> Lengths {
+        Lengths {
+            node_table: areas.nodes.len(),
+            cut_table: areas.cuts.len(),
+            gate_list: areas.gates.len(),
+            memo: areas.memo.len(),
+            areas_suffice: areas.work.iter().zip(smallest).all(|(area, least)| area.len() >= least),
+        }
+    }
+}
+
+impl Library for Mirror {
+    fn smallest_areas(&self, node_capacity: usize, cut_capacity: usize) -> [usize; 4] {
+        [node_capacity.max(cut_capacity) + 2; 4]
+    }
+
+    fn smallest_bracket_areas(&self, capacity: usize) -> [usize; 2] {
+        [capacity + 2; 2]
+    }
+
+    fn read(&self, bytes: &[u8]) -> ReadAnswer {
+        match read(bytes) {
+            Ok(tree) => ReadAnswer { number: 0, place: 0, tree },
+            Err(Refusal { number, place }) => ReadAnswer { number, place, tree: Tree::default() },
+        }
+    }
+
+    fn write(&self, tree: &Tree, room: &mut [u8]) -> WriteAnswer {
+        match write_into(tree, room) {
+            Ok(used) => WriteAnswer { number: 0, place: 0, used: used as u64 },
+            Err(Refusal { number, place }) => WriteAnswer { number, place, used: 0 },
+        }
+    }
+
+    fn analyse(&self, bytes: &[u8], areas: Areas) -> AnalyseAnswer {
+        let smallest = self.smallest_areas(areas.nodes.len() / 3, areas.cuts.len() / 3);
+        let done = analyse(bytes, Mirror::lengths(&areas, smallest));
+        let refusal = done.as_ref().err().copied();
+        if refusal.is_none_or(|refusal| refusal.number >= 10) {
+            areas.nodes.fill(0);
+            areas.cuts.fill(0);
+            areas.gates.fill(0);
+            areas.memo.fill(0);
+            areas.work.into_iter().for_each(|area| area.fill(0));
+        }
+        match done {
+            Ok(done) => {
+                fill(areas.nodes, &done.robdd.nodes.table());
+                fill(areas.cuts, &done.cuts.nodes.table());
+                fill(areas.gates, &done.robdd.gate_nodes);
+                AnalyseAnswer {
+                    number: 0,
+                    place: 0,
+                    nodes: done.robdd.nodes.count() as u64,
+                    cut_nodes: done.cuts.nodes.count() as u64,
+                    root: done.robdd.root(),
+                    cut_root: done.cuts.root,
+                }
+            }
+            Err(Refusal { number, place }) => {
+                AnalyseAnswer { number, place, nodes: 0, cut_nodes: 0, root: 0, cut_root: 0 }
+            }
+        }
+    }
+
+    fn list(&self, diagram: &Lent, after: Option<Set>, room: &mut [u8]) -> ListAnswer {
+        let answer = list(diagram, after, room.len());
+        room[..answer.bytes.len()].copy_from_slice(&answer.bytes);
+        ListAnswer {
+            number: answer.number,
+            written: answer.written as u64,
+            used: answer.bytes.len() as u64,
+            last: answer.last,
+            finished: answer.finished,
+        }
+    }
+
+    fn bracket(&self, diagram: &Lent, chances: &[u32], work: [&mut [u32]; 2]) -> BracketAnswer {
+        let smallest = self.smallest_bracket_areas(diagram.table.len() / 3);
+        let suffice = work.iter().zip(smallest).all(|(area, least)| area.len() >= least);
+        let answer = bracket(diagram, chances, suffice);
+        if answer.number == 0 {
+            work.into_iter().for_each(|area| area.fill(0));
+        }
+        BracketAnswer { number: answer.number, low: answer.low, high: answer.high }
+    }
+}

@@ -1,0 +1,252 @@
+//! Wrong programs: the mirror with one fault each. The comparison must see every one of them.
+
+use crate::cut_diagram::CutDiagram;
+use crate::judge::{read, write};
+use crate::lent::Lent;
+use crate::library::*;
+use crate::mirror::Mirror;
+use crate::robdd::Robdd;
+use crate::sets::Set;
+use crate::tree::*;
+use crate::wrong_lent::{wrong_bracket, wrong_list};
+
+#[derive(Clone, Copy, Debug, PartialEq, Eq)]
+pub enum Wrong {
+    // Reading.
+    PlaceAlwaysZero,
+    TrailingBytesAsRecords,
+    InputsSorted,
+    UnusedGateAccepted,
+    TotalJudgedAtTheInput,
+    // Writing.
+    WritesUntilFull,
+    ZerosBehindTheTree,
+    RoomBeforeTheTree,
+    UseNotJudgedOnWriting,
+    // Analysis.
+    SafeBound,
+    OrForAtLeastOne,
+    JoinsFromTheRight,
+    CountsReachedCutNodes,
+    NodesStayOnEleven,
+    DirtBehindTheNodes,
+    ClearsBeforeNine,
+    OneNodeForAllGates,
+    AreaLeftDirty,
+    CountKeptInRefusal,
+    FirstGateIsRoot,
+    // Listing.
+    FinishedAfterFirstRoom,
+    FinishedIfRoomIsLeft,
+    NoCutStartsAtBeginning,
+    BeginningIsAfterEmpty,
+    FourteenBelow513,
+    WritesNothing,
+    LastSetForgotten,
+    SkipsWhatDoesNotFit,
+    BySize,
+    NoThirteen,
+    ZerosBehindTheCuts,
+    // Bracket.
+    ZeroToOne,
+    LowTwice,
+    RoundsToNearest,
+    AreasDirtyBehind,
+    SevenOnlyForNodes,
+    NineBeforeTwelve,
+    // Lent diagrams.
+    JudgesReachedNodesOnly,
+    RefusesEqualNodes,
+    RefusesEqualBranchesOfCuts,
+}
+
+use Wrong::*;
+
+pub const ALL: [Wrong; 40] = [
+    PlaceAlwaysZero,
+    TrailingBytesAsRecords,
+    InputsSorted,
+    UnusedGateAccepted,
+    TotalJudgedAtTheInput,
+    WritesUntilFull,
+    ZerosBehindTheTree,
+    RoomBeforeTheTree,
+    UseNotJudgedOnWriting,
+    SafeBound,
+    OrForAtLeastOne,
+    JoinsFromTheRight,
+    CountsReachedCutNodes,
+    NodesStayOnEleven,
+    DirtBehindTheNodes,
+    ClearsBeforeNine,
+    OneNodeForAllGates,
+    AreaLeftDirty,
+    CountKeptInRefusal,
+    FirstGateIsRoot,
+    FinishedAfterFirstRoom,
+    FinishedIfRoomIsLeft,
+    NoCutStartsAtBeginning,
+    BeginningIsAfterEmpty,
+    FourteenBelow513,
+    WritesNothing,
+    LastSetForgotten,
+    SkipsWhatDoesNotFit,
+    BySize,
+    NoThirteen,
+    ZerosBehindTheCuts,
+    ZeroToOne,
+    LowTwice,
+    RoundsToNearest,
+    AreasDirtyBehind,
+    SevenOnlyForNodes,
+    NineBeforeTwelve,
+    JudgesReachedNodesOnly,
+    RefusesEqualNodes,
+    RefusesEqualBranchesOfCuts,
+];
+
+pub struct WrongProgram(pub Wrong);
+
+impl Library for WrongProgram {
+    fn smallest_areas(&self, node_capacity: usize, cut_capacity: usize) -> [usize; 4] {
+        Mirror.smallest_areas(node_capacity, cut_capacity)
+    }
+
+    fn smallest_bracket_areas(&self, capacity: usize) -> [usize; 2] {
+        Mirror.smallest_bracket_areas(capacity)
+    }
+
+    fn read(&self, bytes: &[u8]) -> ReadAnswer {
+        let mut answer = Mirror.read(bytes);
+        let place = answer.place as usize;
+        let at_fault = bytes.get(place).copied().unwrap_or(0);
+        match self.0 {
+            PlaceAlwaysZero => answer.place = 0,
+            TrailingBytesAsRecords if answer.number == 3 && !(1..=7).contains(&at_fault) => answer.number = 2,
+            InputsSorted => sort_inputs(&mut answer.tree),
+            UnusedGateAccepted if answer.number == 8 && at_fault != 1 => {
+                answer = ReadAnswer { number: 0, place: 0, tree: Tree::default() };
+            }
+            TotalJudgedAtTheInput if answer.number == 4 && (2..=3).contains(&at_fault) => {
+                if (1..=64).contains(&bytes[place + 1]) {
+                    answer.place += 2;
+                }
+            }
+            _ => {}
+        }
+        answer
+    }
+
+    fn write(&self, tree: &Tree, room: &mut [u8]) -> WriteAnswer {
+        let mut answer = Mirror.write(tree, room);
+        match (self.0, answer.number) {
+            (WritesUntilFull, 9) => {
+                let bytes = write(tree).expect("only the room was short");
+                let length = room.len();
+                room.copy_from_slice(&bytes[..length]);
+            }
+            (ZerosBehindTheTree, 0) => room[answer.used as usize..].fill(0),
+            (RoomBeforeTheTree, 1..=8) if (room.len() as u64) <= answer.place => {
+                answer = WriteAnswer { number: 9, place: 0, used: 0 };
+            }
+            (UseNotJudgedOnWriting, 8) => answer = WriteAnswer { number: 0, place: 0, used: 0 },
+            _ => {}
+        }
+        answer
+    }
+
+    fn analyse(&self, bytes: &[u8], mut areas: Areas) -> AnalyseAnswer {
+        let nodes_before = areas.nodes.to_vec();
+        let other = other_steps(self.0, bytes);
+        let mut answer = Mirror.analyse(other.as_deref().unwrap_or(bytes), again(&mut areas));
+        match (self.0, answer.number) {
+            (SafeBound, 0) if areas.nodes.len() < 4 * answer.nodes as usize => {
+                again(&mut areas).clear();
+                answer = AnalyseAnswer { number: 10, place: 0, nodes: 0, cut_nodes: 0, root: 0, cut_root: 0 };
+            }
+            (CountsReachedCutNodes, 0) => {
+                let tree = read(bytes).expect("an analysis was done");
+                let robdd = Robdd::build(&tree, usize::MAX).expect("it was built before");
+                let cuts = CutDiagram::build(&robdd, usize::MAX).unwrap_or_else(|_| unreachable!());
+                answer.cut_nodes = cuts.nodes.reached(cuts.root).len() as u64;
+            }
+            (NodesStayOnEleven, 11) => areas.nodes.copy_from_slice(&nodes_before),
+            (DirtBehindTheNodes, 0) => {
+                let end = 3 * answer.nodes as usize;
+                areas.nodes[end..].copy_from_slice(&nodes_before[end..]);
+            }
+            (ClearsBeforeNine, 9) => again(&mut areas).clear(),
+            (OneNodeForAllGates, 0) => {
+                areas.gates.iter_mut().filter(|node| **node != 0).for_each(|node| *node = answer.root);
+            }
+            (AreaLeftDirty, 0) => *areas.work[3].last_mut().expect("an area has numbers") = 1,
+            (CountKeptInRefusal, 11) => answer.nodes = areas.nodes.len() as u64 / 3,
+            (FirstGateIsRoot, 0) => answer.root = areas.gates[0],
+            _ => {}
+        }
+        answer
+    }
+
+    fn list(&self, diagram: &Lent, after: Option<Set>, room: &mut [u8]) -> ListAnswer {
+        wrong_list(self.0, diagram, after, room)
+    }
+
+    fn bracket(&self, diagram: &Lent, chances: &[u32], work: [&mut [u32]; 2]) -> BracketAnswer {
+        wrong_bracket(self.0, diagram, chances, work)
+    }
+}
+
+fn again<'a>(areas: &'a mut Areas) -> Areas<'a> {
+    Areas {
+        nodes: areas.nodes,
+        cuts: areas.cuts,
+        gates: areas.gates,
+        memo: areas.memo,
+        work: areas.work.each_mut().map(|area| &mut **area),
+    }
+}
+
+impl Areas<'_> {
+    fn clear(self) {
+        self.nodes.fill(0);
+        self.cuts.fill(0);
+        self.gates.fill(0);
+        self.memo.fill(0);
+        self.work.into_iter().for_each(|area| area.fill(0));
+    }
+}
+
+fn sort_inputs(tree: &mut Tree) {
+    let mut start = 0;
+    for gate in &tree.gates {
+        let end = start + gate.n as usize;
+        tree.inputs[start..end].sort();
+        start = end;
+    }
+}
+
+/// The same functions by other steps.
+fn other_steps(wrong: Wrong, bytes: &[u8]) -> Option<Vec<u8>> {
+    let mut tree = read(bytes).ok()?;
+    match wrong {
+        OrForAtLeastOne => {
+            for gate in tree.gates.iter_mut().filter(|gate| gate.kind == AT_LEAST) {
+                if gate.k == 1 {
+                    gate.kind = OR;
+                } else if gate.k == gate.n {
+                    gate.kind = AND;
+                }
+            }
+        }
+        JoinsFromTheRight => {
+            let mut start = 0;
+            for gate in &tree.gates {
+                let end = start + gate.n as usize;
+                tree.inputs[start..end].reverse();
+                start = end;
+            }
+        }
+        _ => return None,
+    }
+    write(&tree).ok()
+}

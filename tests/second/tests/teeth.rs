@@ -1,0 +1,40 @@
+//! The comparison itself: it passes the mirror, and it sees every wrong program.
+
+use second::compare::compare_input;
+use second::library::Library;
+use second::mirror::Mirror;
+use second::tally::Tally;
+use second::wrong::{WrongProgram, ALL};
+
+fn tally(library: &dyn Library, inputs: u64) -> Tally {
+    let mut tally = Tally::default();
+    for seed in 0..inputs {
+        compare_input(library, seed, &mut tally);
+        if tally.failed > 0 {
+            break;
+        }
+    }
+    tally
+}
+
+#[test]
+fn the_mirror_passes() {
+    let tally = tally(&Mirror, 4_000);
+    assert_eq!(tally.failed, 0, "{}", tally.first_difference.unwrap_or_default());
+    assert!(tally.passed > 30_000, "{}", tally.line());
+    let numbers = |call| -> Vec<u32> { tally.due.keys().filter(|due| due.0 == call).map(|due| due.1).collect() };
+    assert_eq!(numbers("read"), [0, 1, 2, 3, 4, 5, 6, 7, 8]);
+    assert_eq!(numbers("write"), [0, 2, 4, 5, 6, 7, 8, 9]);
+    assert_eq!(numbers("analyse"), [0, 1, 2, 3, 4, 5, 6, 7, 8, 9, 10, 11]);
+    assert_eq!(numbers("list"), [0, 12, 13, 14]);
+    assert_eq!(numbers("bracket"), [0, 7, 9, 12]);
+}
+
+#[test]
+fn wrong_programs_are_seen() {
+    for wrong in ALL {
+        let tally = tally(&WrongProgram(wrong), 20_000);
+        assert!(tally.failed > 0, "{wrong:?} passes");
+        println!("{wrong:?}: seed {}", tally.seed);
+    }
+}
