@@ -13,7 +13,7 @@ use Rattle.tables.specs.Table.{den}
 use Rattle.tables.specs.Stored.{Lower}
 use Rattle.store.specs.Store.{Grown}
 use Rattle.store.specs.Building.{Is, Part, Found, Step, Stops}
-use Rattle.store.specs.Memo.{Place}
+use Rattle.store.specs.Memo.{Memo, Place}
 use Rattle.store.specs.declared.Built.{Built}
 use Rattle.store.specs.declared.Built.the-variants.{Done, Short}
 use Rattle.store.proofs.Denotes.{den-grown}
@@ -35,6 +35,9 @@ right-grown w k op f g r x = let m = k .more in record {
     is = den-grown w k r (x .found .within) ∙ x .found .is ∙ sym (ap₂ (joinD (bit (op - 1))) (den-grown w k f (x .f-in)) (den-grown w k g (x .g-in)));
   };
 }
+
+pub memo-grown : {T T′ M : List ℕ} {c c′ : ℕ} → Lower T c → Grown T c T′ c′ → Memo (Right T c) M → Memo (Right T′ c′) M
+memo-grown w k m = memo-map (right-grown w k) m
 
 module _ {T H X M : List ℕ} {c z f g : ℕ} {p : Parts} (rd : Ready T H X M c z f g) (ap : Parted T f g p) where
   -- the whole and its two halves
@@ -149,7 +152,7 @@ module _ {T H X M : List ℕ} {c z f g : ℕ} {p : Parts} (rd : Ready T H X M c 
           record {
             makes = record { step = s; found = found };
             tidy = tidy-step (b .makes .step .store) (b .tidy) last-reduced (k .makes .step);
-            memo = memo-keep (memo-map (right-grown (b .makes .step .store .lower) (k .makes .step .grown)) (b .memo)) right (k .keeps);
+            memo = memo-keep (memo-grown (b .makes .step .store .lower) (k .makes .step .grown) (b .memo)) right (k .keeps);
             long = k .keeps .long ∙ b .long ∙ a .long;
           }
 
