@@ -13,6 +13,7 @@ use Rattle.joins.proofs.join_nodes.Kinds as join-nodes-kinds
 use Rattle.joins.proofs.+join_nodes.Lts-join_nodes as join-nodes-lts
 use Rattle.joins.proofs.ask.Reads as ask-reads
 use Rattle.joins.proofs.finish.Reads as finish-reads
+use Rattle.joins.proofs.full.Reads as full-reads
 use Rattle.joins.proofs.take_apart.Reads as take-apart-reads
 use Rattle.joins.proofs.+join_nodes.{statement}
 use Rattle.joins.proofs.+join_nodes.Tie.{close}
@@ -29,7 +30,7 @@ join-nodes-below t = and 4 join-nodes-kinds.ps (falls 4 join-nodes-kinds.ps _<_ 
 
 -- what the calls ask and tell
 abbrev calls : ℕ → join-nodes-lts.Claims
-calls t = (take-apart-reads.Asked, take-apart-reads.Learnt, ask-reads.Asked, ask-reads.Learnt, finish-reads.Asked, finish-reads.Learnt, join-nodes-below t, join-nodes.Post)
+calls t = (take-apart-reads.Asked, take-apart-reads.Learnt, ask-reads.Asked, ask-reads.Learnt, finish-reads.Asked, finish-reads.Learnt, join-nodes-below t, join-nodes.Post, full-reads.Asked, full-reads.Learnt)
 
 join-nodes-take-apart-requires : (t : ℕ) → join-nodes-lts.Need-take-apart-requires (calls t) (join-nodes-at t) join-nodes.Post
 join-nodes-take-apart-requires t c = λ _. ((c .before .before .before .before .before .before .before .pre .1 .0) .store, ((c .before .before .before .before .before .before .before .pre .1 .1 .0, (c .before .before .before .before .before .before .before .pre .1 .0) .f-in), (let x = c .before .before .before .before .before .before .before .pre .1 .1 in omega arith, (c .before .before .before .before .before .before .before .pre .1 .0) .g-in)))
@@ -61,20 +62,23 @@ join-nodes-enum-known-b t c = search needs
 join-nodes-enum-told : (t : ℕ) → join-nodes-lts.Need-enum-told (calls t) (join-nodes-at t) join-nodes.Post
 join-nodes-enum-told t c = search needs
 
+join-nodes-full-requires : (t : ℕ) → join-nodes-lts.Need-full-requires (calls t) (join-nodes-at t) join-nodes.Post
+join-nodes-full-requires t c = search needs
+
 join-nodes-same-length : (t : ℕ) → join-nodes-lts.Need-same-length (calls t) (join-nodes-at t) join-nodes.Post
-join-nodes-same-length t c = search needs
+join-nodes-same-length t c = c .before .before .before .before .before .before .before .before .before .before .before .before .join-nodes .kept .0
 
 join-nodes-same-length-2 : (t : ℕ) → join-nodes-lts.Need-same-length-2 (calls t) (join-nodes-at t) join-nodes.Post
-join-nodes-same-length-2 t c = search needs
+join-nodes-same-length-2 t c = c .before .before .before .before .before .before .before .before .before .before .before .before .join-nodes .kept .1 .0
 
 join-nodes-same-length-3 : (t : ℕ) → join-nodes-lts.Need-same-length-3 (calls t) (join-nodes-at t) join-nodes.Post
-join-nodes-same-length-3 t c = search needs
+join-nodes-same-length-3 t c = c .before .before .before .before .before .before .before .before .before .before .before .before .join-nodes .kept .1 .1 .0
 
 join-nodes-same-length-4 : (t : ℕ) → join-nodes-lts.Need-same-length-4 (calls t) (join-nodes-at t) join-nodes.Post
-join-nodes-same-length-4 t c = search needs
+join-nodes-same-length-4 t c = c .before .before .before .before .before .before .before .before .before .before .before .before .join-nodes .kept .1 .1 .1 .0
 
 join-nodes-returns : (t : ℕ) → join-nodes-lts.Need-returns (calls t) (join-nodes-at t) join-nodes.Post
-join-nodes-returns t c = short-0 (c .before .before .before .before .before .before .before .before .before .before .before .before .before .before .before .before .before .before .before .before .before .before .before .before .before .before .before .before .before .before .before .before .before .pre .1 .0) (c .before .before .before .before .before .before .before .before .before .before .before .before .before .before .before .before .before .before .before .before .before .before .before .before .before .take-apart .ensures) (known (ready-1 (c .before .before .before .before .before .before .before .before .before .before .before .before .before .before .before .before .before .before .before .before .before .before .before .before .before .before .before .before .before .before .before .before .before .pre .1 .0) (c .before .before .before .before .before .before .before .before .before .before .before .before .before .before .before .before .before .before .before .before .before .before .before .before .before .take-apart .ensures)) (rw (c .before .before .before .before .before .before .before .before .before .before .before .before .before .before .before .before .before .before .before .before .before .r1 .given .1) at (c .before .before .before .before .before .before .before .before .before .before .before .before .before .before .before .before .before .before .before .before .before .before .before .ask .ensures))) (c .before .before .before .before .before .before .before .before .before .before .join-nodes .last .0) (c .before .before .before .before .before .before .before .before .before .before .join-nodes .last .1 .0) (c .before .before .before .before .before .before .before .before .before .before .join-nodes .last .1 .1 .0) (c .before .before .before .before .before .before .before .before .before .before .join-nodes .last .1 .1 .1 .0) (c .enum-told .given .1) (c .before .before .before .before .before .before .before .before .before .before .join-nodes .ensures)
+join-nodes-returns t c = short-0 (c .before .before .before .before .before .before .before .before .before .before .before .before .before .before .before .before .before .before .before .before .before .before .before .before .before .before .before .before .before .before .before .before .before .before .before .pre .1 .0) (c .before .before .before .before .before .before .before .before .before .before .before .before .before .before .before .before .before .before .before .before .before .before .before .before .before .before .before .take-apart .ensures) (known (ready-1 (c .before .before .before .before .before .before .before .before .before .before .before .before .before .before .before .before .before .before .before .before .before .before .before .before .before .before .before .before .before .before .before .before .before .before .before .pre .1 .0) (c .before .before .before .before .before .before .before .before .before .before .before .before .before .before .before .before .before .before .before .before .before .before .before .before .before .before .before .take-apart .ensures)) (rw (c .before .before .before .before .before .before .before .before .before .before .before .before .before .before .before .before .before .before .before .before .before .before .before .r1 .given .1) at (c .before .before .before .before .before .before .before .before .before .before .before .before .before .before .before .before .before .before .before .before .before .before .before .before .before .ask .ensures))) (c .before .before .before .before .before .before .before .before .before .before .before .before .join-nodes .last .0) (c .before .before .before .before .before .before .before .before .before .before .before .before .join-nodes .last .1 .0) (c .before .before .before .before .before .before .before .before .before .before .before .before .join-nodes .last .1 .1 .0) (c .before .before .before .before .before .before .before .before .before .before .before .before .join-nodes .last .1 .1 .1 .0) (c .before .before .enum-told .given .1) (c .before .before .before .before .before .before .before .before .before .before .before .before .join-nodes .ensures) (c .full .ensures)
 
 join-nodes-finish-requires-2 : (t : ℕ) → join-nodes-lts.Need-finish-requires-2 (calls t) (join-nodes-at t) join-nodes.Post
 join-nodes-finish-requires-2 t c = λ _. ((rw (c .before .before .before .before .before .b .given .1) at (c .before .before .before .before .before .before .before .before .before .before .before .before .before .before .before .join-nodes .ensures)) .makes .step .store, (in-1 (c .before .before .before .before .before .before .before .before .before .before .before .before .before .before .before .before .before .before .before .before .before .before .before .before .before .before .before .before .before .before .before .before .before .before .before .before .before .before .pre .1 .0) (c .before .before .before .before .before .before .before .before .before .before .before .before .before .before .before .before .before .before .before .before .before .before .before .before .before .before .before .before .before .before .take-apart .ensures) (known (ready-1 (c .before .before .before .before .before .before .before .before .before .before .before .before .before .before .before .before .before .before .before .before .before .before .before .before .before .before .before .before .before .before .before .before .before .before .before .before .before .before .pre .1 .0) (c .before .before .before .before .before .before .before .before .before .before .before .before .before .before .before .before .before .before .before .before .before .before .before .before .before .before .before .before .before .before .take-apart .ensures)) (rw (c .before .before .before .before .before .before .before .before .before .before .before .before .before .before .before .before .before .before .before .before .before .before .before .before .before .before .r1 .given .1) at (c .before .before .before .before .before .before .before .before .before .before .before .before .before .before .before .before .before .before .before .before .before .before .before .before .before .before .before .before .ask .ensures))) (rw (c .before .before .before .before .before .b .given .1) at (c .before .before .before .before .before .before .before .before .before .before .before .before .before .before .before .join-nodes .ensures)), (in-0 (c .before .before .before .before .before .before .before .before .before .before .before .before .before .before .before .before .before .before .before .before .before .before .before .before .before .before .before .before .before .before .before .before .before .before .before .before .before .before .pre .1 .0) (c .before .before .before .before .before .before .before .before .before .before .before .before .before .before .before .before .before .before .before .before .before .before .before .before .before .before .before .before .before .before .take-apart .ensures) (known (ready-1 (c .before .before .before .before .before .before .before .before .before .before .before .before .before .before .before .before .before .before .before .before .before .before .before .before .before .before .before .before .before .before .before .before .before .before .before .before .before .before .pre .1 .0) (c .before .before .before .before .before .before .before .before .before .before .before .before .before .before .before .before .before .before .before .before .before .before .before .before .before .before .before .before .before .before .take-apart .ensures)) (rw (c .before .before .before .before .before .before .before .before .before .before .before .before .before .before .before .before .before .before .before .before .before .before .before .before .before .before .r1 .given .1) at (c .before .before .before .before .before .before .before .before .before .before .before .before .before .before .before .before .before .before .before .before .before .before .before .before .before .before .before .before .ask .ensures))) (rw (c .before .before .before .before .before .b .given .1) at (c .before .before .before .before .before .before .before .before .before .before .before .before .before .before .before .join-nodes .ensures)), ((c .before .before .before .before .before .before .before .before .before .before .before .before .before .before .before .before .before .before .before .before .before .before .before .before .before .before .before .before .before .before .before .before .before .before .before .before .before .before .pre .1 .0) .z-bit, place-2 (c .before .before .before .before .before .before .before .before .before .before .before .before .before .before .before .before .before .before .before .before .before .before .before .before .before .before .before .before .before .before .before .before .before .before .before .before .before .before .pre .1 .0) (c .before .before .before .before .before .before .before .before .before .before .before .before .before .before .before .before .before .before .before .before .before .before .before .before .before .before .before .before .before .before .take-apart .ensures) (known (ready-1 (c .before .before .before .before .before .before .before .before .before .before .before .before .before .before .before .before .before .before .before .before .before .before .before .before .before .before .before .before .before .before .before .before .before .before .before .before .before .before .pre .1 .0) (c .before .before .before .before .before .before .before .before .before .before .before .before .before .before .before .before .before .before .before .before .before .before .before .before .before .before .before .before .before .before .take-apart .ensures)) (rw (c .before .before .before .before .before .before .before .before .before .before .before .before .before .before .before .before .before .before .before .before .before .before .before .before .before .before .r1 .given .1) at (c .before .before .before .before .before .before .before .before .before .before .before .before .before .before .before .before .before .before .before .before .before .before .before .before .before .before .before .before .ask .ensures))) (rw (c .before .before .before .before .before .b .given .1) at (c .before .before .before .before .before .before .before .before .before .before .before .before .before .before .before .join-nodes .ensures)) (c .before .before .before .before .before .before .before .before .before .before .before .before .before .before .before .before .before .before .before .before .before .before .before .before .before .before .before .before .before .before .before .before .before .before .before .before .before .before .pre .1 .1 .1 .1)))))
@@ -91,20 +95,23 @@ join-nodes-enum-known-a t c = search needs
 join-nodes-enum-told-2 : (t : ℕ) → join-nodes-lts.Need-enum-told-2 (calls t) (join-nodes-at t) join-nodes.Post
 join-nodes-enum-told-2 t c = search needs
 
+join-nodes-full-requires-2 : (t : ℕ) → join-nodes-lts.Need-full-requires-2 (calls t) (join-nodes-at t) join-nodes.Post
+join-nodes-full-requires-2 t c = search needs
+
 join-nodes-same-length-5 : (t : ℕ) → join-nodes-lts.Need-same-length-5 (calls t) (join-nodes-at t) join-nodes.Post
-join-nodes-same-length-5 t c = search needs
+join-nodes-same-length-5 t c = c .before .before .before .before .before .before .before .before .before .before .before .before .join-nodes2 .kept .0
 
 join-nodes-same-length-6 : (t : ℕ) → join-nodes-lts.Need-same-length-6 (calls t) (join-nodes-at t) join-nodes.Post
-join-nodes-same-length-6 t c = search needs
+join-nodes-same-length-6 t c = c .before .before .before .before .before .before .before .before .before .before .before .before .join-nodes2 .kept .1 .0
 
 join-nodes-same-length-7 : (t : ℕ) → join-nodes-lts.Need-same-length-7 (calls t) (join-nodes-at t) join-nodes.Post
-join-nodes-same-length-7 t c = search needs
+join-nodes-same-length-7 t c = c .before .before .before .before .before .before .before .before .before .before .before .before .join-nodes2 .kept .1 .1 .0
 
 join-nodes-same-length-8 : (t : ℕ) → join-nodes-lts.Need-same-length-8 (calls t) (join-nodes-at t) join-nodes.Post
-join-nodes-same-length-8 t c = search needs
+join-nodes-same-length-8 t c = c .before .before .before .before .before .before .before .before .before .before .before .before .join-nodes2 .kept .1 .1 .1 .0
 
 join-nodes-returns-2 : (t : ℕ) → join-nodes-lts.Need-returns-2 (calls t) (join-nodes-at t) join-nodes.Post
-join-nodes-returns-2 t c = short-1 (c .before .before .before .before .before .before .before .before .before .before .before .before .before .before .before .before .before .before .before .before .before .before .before .before .before .before .before .before .pre .1 .0) (c .before .before .before .before .before .before .before .before .before .before .before .before .before .before .before .before .before .before .before .before .take-apart .ensures) (c .before .before .before .before .before .before .before .before .before .before .join-nodes2 .last .0) (c .before .before .before .before .before .before .before .before .before .before .join-nodes2 .last .1 .0) (c .before .before .before .before .before .before .before .before .before .before .join-nodes2 .last .1 .1 .0) (c .before .before .before .before .before .before .before .before .before .before .join-nodes2 .last .1 .1 .1 .0) (c .enum-told2 .given .1) (c .before .before .before .before .before .before .before .before .before .before .join-nodes2 .ensures)
+join-nodes-returns-2 t c = short-1 (c .before .before .before .before .before .before .before .before .before .before .before .before .before .before .before .before .before .before .before .before .before .before .before .before .before .before .before .before .before .before .pre .1 .0) (c .before .before .before .before .before .before .before .before .before .before .before .before .before .before .before .before .before .before .before .before .before .before .take-apart .ensures) (c .before .before .before .before .before .before .before .before .before .before .before .before .join-nodes2 .last .0) (c .before .before .before .before .before .before .before .before .before .before .before .before .join-nodes2 .last .1 .0) (c .before .before .before .before .before .before .before .before .before .before .before .before .join-nodes2 .last .1 .1 .0) (c .before .before .before .before .before .before .before .before .before .before .before .before .join-nodes2 .last .1 .1 .1 .0) (c .before .before .enum-told2 .given .1) (c .before .before .before .before .before .before .before .before .before .before .before .before .join-nodes2 .ensures) (c .full2 .ensures)
 
 join-nodes-ask-requires-3 : (t : ℕ) → join-nodes-lts.Need-ask-requires-3 (calls t) (join-nodes-at t) join-nodes.Post
 join-nodes-ask-requires-3 t c = λ _. ((c .before .before .before .before .before .before .before .before .before .before .before .before .before .before .before .before .before .before .before .before .before .before .before .before .before .before .before .before .before .before .pre .1 .0) .z-bit, (c .before .before .before .before .before .before .before .before .before .before .before .before .before .before .before .before .before .before .before .before .before .before .take-apart .ensures) .order-0)
@@ -127,65 +134,68 @@ join-nodes-enum-known-b-2 t c = search needs
 join-nodes-enum-told-3 : (t : ℕ) → join-nodes-lts.Need-enum-told-3 (calls t) (join-nodes-at t) join-nodes.Post
 join-nodes-enum-told-3 t c = search needs
 
+join-nodes-full-requires-3 : (t : ℕ) → join-nodes-lts.Need-full-requires-3 (calls t) (join-nodes-at t) join-nodes.Post
+join-nodes-full-requires-3 t c = search needs
+
 join-nodes-same-length-9 : (t : ℕ) → join-nodes-lts.Need-same-length-9 (calls t) (join-nodes-at t) join-nodes.Post
-join-nodes-same-length-9 t c = search needs
+join-nodes-same-length-9 t c = c .before .before .before .before .before .before .before .before .before .before .before .before .join-nodes3 .kept .0 ∙ c .before .before .before .before .before .before .before .before .before .before .before .before .before .before .before .before .before .before .before .before .before .before .before .before .before .before .before .before .before .before .before .before .before .join-nodes2 .kept .0
 
 join-nodes-same-length-10 : (t : ℕ) → join-nodes-lts.Need-same-length-10 (calls t) (join-nodes-at t) join-nodes.Post
-join-nodes-same-length-10 t c = search needs
+join-nodes-same-length-10 t c = c .before .before .before .before .before .before .before .before .before .before .before .before .join-nodes3 .kept .1 .0 ∙ c .before .before .before .before .before .before .before .before .before .before .before .before .before .before .before .before .before .before .before .before .before .before .before .before .before .before .before .before .before .before .before .before .before .join-nodes2 .kept .1 .0
 
 join-nodes-same-length-11 : (t : ℕ) → join-nodes-lts.Need-same-length-11 (calls t) (join-nodes-at t) join-nodes.Post
-join-nodes-same-length-11 t c = search needs
+join-nodes-same-length-11 t c = c .before .before .before .before .before .before .before .before .before .before .before .before .join-nodes3 .kept .1 .1 .0 ∙ c .before .before .before .before .before .before .before .before .before .before .before .before .before .before .before .before .before .before .before .before .before .before .before .before .before .before .before .before .before .before .before .before .before .join-nodes2 .kept .1 .1 .0
 
 join-nodes-same-length-12 : (t : ℕ) → join-nodes-lts.Need-same-length-12 (calls t) (join-nodes-at t) join-nodes.Post
-join-nodes-same-length-12 t c = search needs
+join-nodes-same-length-12 t c = c .before .before .before .before .before .before .before .before .before .before .before .before .join-nodes3 .kept .1 .1 .1 .0 ∙ c .before .before .before .before .before .before .before .before .before .before .before .before .before .before .before .before .before .before .before .before .before .before .before .before .before .before .before .before .before .before .before .before .before .join-nodes2 .kept .1 .1 .1 .0
 
 join-nodes-returns-3 : (t : ℕ) → join-nodes-lts.Need-returns-3 (calls t) (join-nodes-at t) join-nodes.Post
-join-nodes-returns-3 t c = short-0 (c .before .before .before .before .before .before .before .before .before .before .before .before .before .before .before .before .before .before .before .before .before .before .before .before .before .before .before .before .before .before .before .before .before .before .before .before .before .before .before .before .before .before .before .before .before .before .before .before .before .pre .1 .0) (c .before .before .before .before .before .before .before .before .before .before .before .before .before .before .before .before .before .before .before .before .before .before .before .before .before .before .before .before .before .before .before .before .before .before .before .before .before .before .before .before .before .take-apart .ensures) (rw (c .before .before .before .before .before .before .before .before .before .before .before .before .before .before .before .before .before .before .before .before .before .a .given .1) at (c .before .before .before .before .before .before .before .before .before .before .before .before .before .before .before .before .before .before .before .before .before .before .before .before .before .before .before .before .before .before .before .join-nodes2 .ensures)) (c .before .before .before .before .before .before .before .before .before .before .join-nodes3 .last .0) (c .before .before .before .before .before .before .before .before .before .before .join-nodes3 .last .1 .0) (c .before .before .before .before .before .before .before .before .before .before .join-nodes3 .last .1 .1 .0) (c .before .before .before .before .before .before .before .before .before .before .join-nodes3 .last .1 .1 .1 .0) (c .enum-told3 .given .1) (c .before .before .before .before .before .before .before .before .before .before .join-nodes3 .ensures)
+join-nodes-returns-3 t c = short-0 (c .before .before .before .before .before .before .before .before .before .before .before .before .before .before .before .before .before .before .before .before .before .before .before .before .before .before .before .before .before .before .before .before .before .before .before .before .before .before .before .before .before .before .before .before .before .before .before .before .before .before .before .pre .1 .0) (c .before .before .before .before .before .before .before .before .before .before .before .before .before .before .before .before .before .before .before .before .before .before .before .before .before .before .before .before .before .before .before .before .before .before .before .before .before .before .before .before .before .before .before .take-apart .ensures) (rw (c .before .before .before .before .before .before .before .before .before .before .before .before .before .before .before .before .before .before .before .before .before .before .before .a .given .1) at (c .before .before .before .before .before .before .before .before .before .before .before .before .before .before .before .before .before .before .before .before .before .before .before .before .before .before .before .before .before .before .before .before .before .join-nodes2 .ensures)) (c .before .before .before .before .before .before .before .before .before .before .before .before .join-nodes3 .last .0) (c .before .before .before .before .before .before .before .before .before .before .before .before .join-nodes3 .last .1 .0) (c .before .before .before .before .before .before .before .before .before .before .before .before .join-nodes3 .last .1 .1 .0) (c .before .before .before .before .before .before .before .before .before .before .before .before .join-nodes3 .last .1 .1 .1 .0) (c .before .before .enum-told3 .given .1) (c .before .before .before .before .before .before .before .before .before .before .before .before .join-nodes3 .ensures) (c .full3 .ensures)
 
 join-nodes-finish-requires-4 : (t : ℕ) → join-nodes-lts.Need-finish-requires-4 (calls t) (join-nodes-at t) join-nodes.Post
 join-nodes-finish-requires-4 t c = λ _. ((rw (c .before .before .before .before .before .b2 .given .1) at (c .before .before .before .before .before .before .before .before .before .before .before .before .before .before .before .join-nodes3 .ensures)) .makes .step .store, (in-1 (c .before .before .before .before .before .before .before .before .before .before .before .before .before .before .before .before .before .before .before .before .before .before .before .before .before .before .before .before .before .before .before .before .before .before .before .before .before .before .before .before .before .before .before .before .before .before .before .before .before .before .before .before .before .before .pre .1 .0) (c .before .before .before .before .before .before .before .before .before .before .before .before .before .before .before .before .before .before .before .before .before .before .before .before .before .before .before .before .before .before .before .before .before .before .before .before .before .before .before .before .before .before .before .before .before .before .take-apart .ensures) (rw (c .before .before .before .before .before .before .before .before .before .before .before .before .before .before .before .before .before .before .before .before .before .before .before .before .before .before .a .given .1) at (c .before .before .before .before .before .before .before .before .before .before .before .before .before .before .before .before .before .before .before .before .before .before .before .before .before .before .before .before .before .before .before .before .before .before .before .before .join-nodes2 .ensures)) (rw (c .before .before .before .before .before .b2 .given .1) at (c .before .before .before .before .before .before .before .before .before .before .before .before .before .before .before .join-nodes3 .ensures)), (in-0 (c .before .before .before .before .before .before .before .before .before .before .before .before .before .before .before .before .before .before .before .before .before .before .before .before .before .before .before .before .before .before .before .before .before .before .before .before .before .before .before .before .before .before .before .before .before .before .before .before .before .before .before .before .before .before .pre .1 .0) (c .before .before .before .before .before .before .before .before .before .before .before .before .before .before .before .before .before .before .before .before .before .before .before .before .before .before .before .before .before .before .before .before .before .before .before .before .before .before .before .before .before .before .before .before .before .before .take-apart .ensures) (rw (c .before .before .before .before .before .before .before .before .before .before .before .before .before .before .before .before .before .before .before .before .before .before .before .before .before .before .a .given .1) at (c .before .before .before .before .before .before .before .before .before .before .before .before .before .before .before .before .before .before .before .before .before .before .before .before .before .before .before .before .before .before .before .before .before .before .before .before .join-nodes2 .ensures)) (rw (c .before .before .before .before .before .b2 .given .1) at (c .before .before .before .before .before .before .before .before .before .before .before .before .before .before .before .join-nodes3 .ensures)), ((c .before .before .before .before .before .before .before .before .before .before .before .before .before .before .before .before .before .before .before .before .before .before .before .before .before .before .before .before .before .before .before .before .before .before .before .before .before .before .before .before .before .before .before .before .before .before .before .before .before .before .before .before .before .before .pre .1 .0) .z-bit, place-2 (c .before .before .before .before .before .before .before .before .before .before .before .before .before .before .before .before .before .before .before .before .before .before .before .before .before .before .before .before .before .before .before .before .before .before .before .before .before .before .before .before .before .before .before .before .before .before .before .before .before .before .before .before .before .before .pre .1 .0) (c .before .before .before .before .before .before .before .before .before .before .before .before .before .before .before .before .before .before .before .before .before .before .before .before .before .before .before .before .before .before .before .before .before .before .before .before .before .before .before .before .before .before .before .before .before .before .take-apart .ensures) (rw (c .before .before .before .before .before .before .before .before .before .before .before .before .before .before .before .before .before .before .before .before .before .before .before .before .before .before .a .given .1) at (c .before .before .before .before .before .before .before .before .before .before .before .before .before .before .before .before .before .before .before .before .before .before .before .before .before .before .before .before .before .before .before .before .before .before .before .before .join-nodes2 .ensures)) (rw (c .before .before .before .before .before .b2 .given .1) at (c .before .before .before .before .before .before .before .before .before .before .before .before .before .before .before .join-nodes3 .ensures)) (c .before .before .before .before .before .before .before .before .before .before .before .before .before .before .before .before .before .before .before .before .before .before .before .before .before .before .before .before .before .before .before .before .before .before .before .before .before .before .before .before .before .before .before .before .before .before .before .before .before .before .before .before .before .before .pre .1 .1 .1 .1)))))
 
 join-nodes-same-length-13 : (t : ℕ) → join-nodes-lts.Need-same-length-13 (calls t) (join-nodes-at t) join-nodes.Post
-join-nodes-same-length-13 t c = search needs
+join-nodes-same-length-13 t c = c .before .before .before .before .before .before .before .before .finish .kept .0
 
 join-nodes-same-length-14 : (t : ℕ) → join-nodes-lts.Need-same-length-14 (calls t) (join-nodes-at t) join-nodes.Post
-join-nodes-same-length-14 t c = search needs
+join-nodes-same-length-14 t c = c .before .before .before .before .before .before .before .before .finish .kept .1 .0
 
 join-nodes-same-length-15 : (t : ℕ) → join-nodes-lts.Need-same-length-15 (calls t) (join-nodes-at t) join-nodes.Post
-join-nodes-same-length-15 t c = search needs
+join-nodes-same-length-15 t c = c .before .before .before .before .before .before .before .before .finish .kept .1 .1 .0
 
 join-nodes-same-length-16 : (t : ℕ) → join-nodes-lts.Need-same-length-16 (calls t) (join-nodes-at t) join-nodes.Post
-join-nodes-same-length-16 t c = search needs
+join-nodes-same-length-16 t c = c .before .before .before .before .before .before .before .before .finish .kept .1 .1 .1 .0
 
 join-nodes-returns-4 : (t : ℕ) → join-nodes-lts.Need-returns-4 (calls t) (join-nodes-at t) join-nodes.Post
 join-nodes-returns-4 t c = all (c .before .before .before .before .before .before .before .before .before .before .before .before .before .before .before .before .before .before .before .before .before .before .before .before .before .before .before .before .before .before .before .pre .1 .0) (c .before .before .before .before .before .before .before .before .before .before .before .before .before .before .before .before .before .before .before .before .before .before .before .take-apart .ensures) (known (ready-1 (c .before .before .before .before .before .before .before .before .before .before .before .before .before .before .before .before .before .before .before .before .before .before .before .before .before .before .before .before .before .before .before .pre .1 .0) (c .before .before .before .before .before .before .before .before .before .before .before .before .before .before .before .before .before .before .before .before .before .before .before .take-apart .ensures)) (rw (c .before .before .before .before .before .before .before .before .before .before .before .before .before .before .before .before .before .before .before .r1 .given .1) at (c .before .before .before .before .before .before .before .before .before .before .before .before .before .before .before .before .before .before .before .before .before .ask .ensures))) (known (ready-0 (c .before .before .before .before .before .before .before .before .before .before .before .before .before .before .before .before .before .before .before .before .before .before .before .before .before .before .before .before .before .before .before .pre .1 .0) (c .before .before .before .before .before .before .before .before .before .before .before .before .before .before .before .before .before .before .before .before .before .before .before .take-apart .ensures) (known (ready-1 (c .before .before .before .before .before .before .before .before .before .before .before .before .before .before .before .before .before .before .before .before .before .before .before .before .before .before .before .before .before .before .before .pre .1 .0) (c .before .before .before .before .before .before .before .before .before .before .before .before .before .before .before .before .before .before .before .before .before .before .before .take-apart .ensures)) (rw (c .before .before .before .before .before .before .before .before .before .before .before .before .before .before .before .before .before .before .before .r1 .given .1) at (c .before .before .before .before .before .before .before .before .before .before .before .before .before .before .before .before .before .before .before .before .before .ask .ensures)))) (rw (c .before .before .before .before .before .before .before .before .before .before .before .before .before .before .r0 .given .1) at (c .before .before .before .before .before .before .before .before .before .before .before .before .before .before .before .before .ask2 .ensures))) (c .before .before .before .before .before .before .before .before .finish .last .0) (c .before .before .before .before .before .before .before .before .finish .last .1 .0) (c .before .before .before .before .before .before .before .before .finish .last .1 .1 .0) (c .before .before .before .before .before .before .before .before .finish .last .1 .1 .1 .0) (c .before .before .before .before .before .before .before .before .finish .result) (c .before .before .before .before .before .before .before .before .finish .ensures)
 
 join-nodes-same-length-17 : (t : ℕ) → join-nodes-lts.Need-same-length-17 (calls t) (join-nodes-at t) join-nodes.Post
-join-nodes-same-length-17 t c = search needs
+join-nodes-same-length-17 t c = c .before .before .before .before .before .before .before .before .finish2 .kept .0 ∙ c .before .before .before .before .before .before .before .before .before .before .before .before .before .before .before .before .before .before .before .before .before .before .before .before .join-nodes .kept .0
 
 join-nodes-same-length-18 : (t : ℕ) → join-nodes-lts.Need-same-length-18 (calls t) (join-nodes-at t) join-nodes.Post
-join-nodes-same-length-18 t c = search needs
+join-nodes-same-length-18 t c = c .before .before .before .before .before .before .before .before .finish2 .kept .1 .0 ∙ c .before .before .before .before .before .before .before .before .before .before .before .before .before .before .before .before .before .before .before .before .before .before .before .before .join-nodes .kept .1 .0
 
 join-nodes-same-length-19 : (t : ℕ) → join-nodes-lts.Need-same-length-19 (calls t) (join-nodes-at t) join-nodes.Post
-join-nodes-same-length-19 t c = search needs
+join-nodes-same-length-19 t c = c .before .before .before .before .before .before .before .before .finish2 .kept .1 .1 .0 ∙ c .before .before .before .before .before .before .before .before .before .before .before .before .before .before .before .before .before .before .before .before .before .before .before .before .join-nodes .kept .1 .1 .0
 
 join-nodes-same-length-20 : (t : ℕ) → join-nodes-lts.Need-same-length-20 (calls t) (join-nodes-at t) join-nodes.Post
-join-nodes-same-length-20 t c = search needs
+join-nodes-same-length-20 t c = c .before .before .before .before .before .before .before .before .finish2 .kept .1 .1 .1 .0 ∙ c .before .before .before .before .before .before .before .before .before .before .before .before .before .before .before .before .before .before .before .before .before .before .before .before .join-nodes .kept .1 .1 .1 .0
 
 join-nodes-returns-5 : (t : ℕ) → join-nodes-lts.Need-returns-5 (calls t) (join-nodes-at t) join-nodes.Post
 join-nodes-returns-5 t c = all (c .before .before .before .before .before .before .before .before .before .before .before .before .before .before .before .before .before .before .before .before .before .before .before .before .before .before .before .before .before .before .before .before .before .before .before .before .before .before .before .before .before .before .before .before .before .before .before .pre .1 .0) (c .before .before .before .before .before .before .before .before .before .before .before .before .before .before .before .before .before .before .before .before .before .before .before .before .before .before .before .before .before .before .before .before .before .before .before .before .before .before .before .take-apart .ensures) (known (ready-1 (c .before .before .before .before .before .before .before .before .before .before .before .before .before .before .before .before .before .before .before .before .before .before .before .before .before .before .before .before .before .before .before .before .before .before .before .before .before .before .before .before .before .before .before .before .before .before .before .pre .1 .0) (c .before .before .before .before .before .before .before .before .before .before .before .before .before .before .before .before .before .before .before .before .before .before .before .before .before .before .before .before .before .before .before .before .before .before .before .before .before .before .before .take-apart .ensures)) (rw (c .before .before .before .before .before .before .before .before .before .before .before .before .before .before .before .before .before .before .before .before .before .before .before .before .before .before .before .before .before .before .before .before .before .before .before .r1 .given .1) at (c .before .before .before .before .before .before .before .before .before .before .before .before .before .before .before .before .before .before .before .before .before .before .before .before .before .before .before .before .before .before .before .before .before .before .before .before .before .ask .ensures))) (rw (c .before .before .before .before .before .before .before .before .before .before .before .before .before .before .b .given .1) at (c .before .before .before .before .before .before .before .before .before .before .before .before .before .before .before .before .before .before .before .before .before .before .before .before .join-nodes .ensures)) (c .before .before .before .before .before .before .before .before .finish2 .last .0) (c .before .before .before .before .before .before .before .before .finish2 .last .1 .0) (c .before .before .before .before .before .before .before .before .finish2 .last .1 .1 .0) (c .before .before .before .before .before .before .before .before .finish2 .last .1 .1 .1 .0) (c .before .before .before .before .before .before .before .before .finish2 .result) (c .before .before .before .before .before .before .before .before .finish2 .ensures)
 
 join-nodes-same-length-21 : (t : ℕ) → join-nodes-lts.Need-same-length-21 (calls t) (join-nodes-at t) join-nodes.Post
-join-nodes-same-length-21 t c = search needs
+join-nodes-same-length-21 t c = c .before .before .before .before .before .before .before .before .finish3 .kept .0 ∙ c .before .before .before .before .before .before .before .before .before .before .before .before .before .before .before .before .before .before .before .before .before .before .before .before .before .before .before .before .before .join-nodes2 .kept .0
 
 join-nodes-same-length-22 : (t : ℕ) → join-nodes-lts.Need-same-length-22 (calls t) (join-nodes-at t) join-nodes.Post
-join-nodes-same-length-22 t c = search needs
+join-nodes-same-length-22 t c = c .before .before .before .before .before .before .before .before .finish3 .kept .1 .0 ∙ c .before .before .before .before .before .before .before .before .before .before .before .before .before .before .before .before .before .before .before .before .before .before .before .before .before .before .before .before .before .join-nodes2 .kept .1 .0
 
 join-nodes-same-length-23 : (t : ℕ) → join-nodes-lts.Need-same-length-23 (calls t) (join-nodes-at t) join-nodes.Post
-join-nodes-same-length-23 t c = search needs
+join-nodes-same-length-23 t c = c .before .before .before .before .before .before .before .before .finish3 .kept .1 .1 .0 ∙ c .before .before .before .before .before .before .before .before .before .before .before .before .before .before .before .before .before .before .before .before .before .before .before .before .before .before .before .before .before .join-nodes2 .kept .1 .1 .0
 
 join-nodes-same-length-24 : (t : ℕ) → join-nodes-lts.Need-same-length-24 (calls t) (join-nodes-at t) join-nodes.Post
-join-nodes-same-length-24 t c = search needs
+join-nodes-same-length-24 t c = c .before .before .before .before .before .before .before .before .finish3 .kept .1 .1 .1 .0 ∙ c .before .before .before .before .before .before .before .before .before .before .before .before .before .before .before .before .before .before .before .before .before .before .before .before .before .before .before .before .before .join-nodes2 .kept .1 .1 .1 .0
 
 join-nodes-returns-6 : (t : ℕ) → join-nodes-lts.Need-returns-6 (calls t) (join-nodes-at t) join-nodes.Post
 join-nodes-returns-6 t c = all (c .before .before .before .before .before .before .before .before .before .before .before .before .before .before .before .before .before .before .before .before .before .before .before .before .before .before .before .before .before .before .before .before .before .before .before .before .before .before .before .before .before .before .before .before .before .before .before .pre .1 .0) (c .before .before .before .before .before .before .before .before .before .before .before .before .before .before .before .before .before .before .before .before .before .before .before .before .before .before .before .before .before .before .before .before .before .before .before .before .before .before .before .take-apart .ensures) (rw (c .before .before .before .before .before .before .before .before .before .before .before .before .before .before .before .before .before .before .before .a .given .1) at (c .before .before .before .before .before .before .before .before .before .before .before .before .before .before .before .before .before .before .before .before .before .before .before .before .before .before .before .before .before .join-nodes2 .ensures)) (known (ready-0 (c .before .before .before .before .before .before .before .before .before .before .before .before .before .before .before .before .before .before .before .before .before .before .before .before .before .before .before .before .before .before .before .before .before .before .before .before .before .before .before .before .before .before .before .before .before .before .before .pre .1 .0) (c .before .before .before .before .before .before .before .before .before .before .before .before .before .before .before .before .before .before .before .before .before .before .before .before .before .before .before .before .before .before .before .before .before .before .before .before .before .before .before .take-apart .ensures) (rw (c .before .before .before .before .before .before .before .before .before .before .before .before .before .before .before .before .before .before .before .a .given .1) at (c .before .before .before .before .before .before .before .before .before .before .before .before .before .before .before .before .before .before .before .before .before .before .before .before .before .before .before .before .before .join-nodes2 .ensures))) (rw (c .before .before .before .before .before .before .before .before .before .before .before .before .before .before .r02 .given .1) at (c .before .before .before .before .before .before .before .before .before .before .before .before .before .before .before .before .ask3 .ensures))) (c .before .before .before .before .before .before .before .before .finish3 .last .0) (c .before .before .before .before .before .before .before .before .finish3 .last .1 .0) (c .before .before .before .before .before .before .before .before .finish3 .last .1 .1 .0) (c .before .before .before .before .before .before .before .before .finish3 .last .1 .1 .1 .0) (c .before .before .before .before .before .before .before .before .finish3 .result) (c .before .before .before .before .before .before .before .before .finish3 .ensures)
@@ -206,4 +216,4 @@ join-nodes-returns-7 : (t : ℕ) → join-nodes-lts.Need-returns-7 (calls t) (jo
 join-nodes-returns-7 t c = all (c .before .before .before .before .before .before .before .before .before .before .before .before .before .before .before .before .before .before .before .before .before .before .before .before .before .before .before .before .before .before .before .before .before .before .before .before .before .before .before .before .before .before .before .before .before .before .before .before .before .before .before .before .before .before .before .before .before .before .before .before .before .before .before .pre .1 .0) (c .before .before .before .before .before .before .before .before .before .before .before .before .before .before .before .before .before .before .before .before .before .before .before .before .before .before .before .before .before .before .before .before .before .before .before .before .before .before .before .before .before .before .before .before .before .before .before .before .before .before .before .before .before .before .before .take-apart .ensures) (rw (c .before .before .before .before .before .before .before .before .before .before .before .before .before .before .before .before .before .before .before .before .before .before .before .before .before .before .before .before .before .before .before .before .before .before .before .a .given .1) at (c .before .before .before .before .before .before .before .before .before .before .before .before .before .before .before .before .before .before .before .before .before .before .before .before .before .before .before .before .before .before .before .before .before .before .before .before .before .before .before .before .before .before .before .before .before .join-nodes2 .ensures)) (rw (c .before .before .before .before .before .before .before .before .before .before .before .before .before .before .b2 .given .1) at (c .before .before .before .before .before .before .before .before .before .before .before .before .before .before .before .before .before .before .before .before .before .before .before .before .join-nodes3 .ensures)) (c .before .before .before .before .before .before .before .before .finish4 .last .0) (c .before .before .before .before .before .before .before .before .finish4 .last .1 .0) (c .before .before .before .before .before .before .before .before .finish4 .last .1 .1 .0) (c .before .before .before .before .before .before .before .before .finish4 .last .1 .1 .1 .0) (c .before .before .before .before .before .before .before .before .finish4 .result) (c .before .before .before .before .before .before .before .before .finish4 .ensures)
 
 pub +join-nodes-spec : {M : Type 1} → statement M
-+join-nodes-spec = close μ-join-nodes (λ t. join-nodes-lts.spec (calls t) (join-nodes-at t) join-nodes.Post (join-nodes-take-apart-requires t) (join-nodes-ask-requires t) (join-nodes-enum-known-r1 t) (join-nodes-ask-requires-2 t) (join-nodes-enum-known-r0 t) (join-nodes-finish-requires t) (join-nodes-enum-known-at0 t) (join-nodes-join-nodes-requires t) (join-nodes-enum-known-b t) (join-nodes-enum-told t) (join-nodes-same-length t) (join-nodes-same-length-2 t) (join-nodes-same-length-3 t) (join-nodes-same-length-4 t) (join-nodes-returns t) (join-nodes-finish-requires-2 t) (join-nodes-enum-known-at1 t) (join-nodes-join-nodes-requires-2 t) (join-nodes-enum-known-a t) (join-nodes-enum-told-2 t) (join-nodes-same-length-5 t) (join-nodes-same-length-6 t) (join-nodes-same-length-7 t) (join-nodes-same-length-8 t) (join-nodes-returns-2 t) (join-nodes-ask-requires-3 t) (join-nodes-enum-known-r0-2 t) (join-nodes-finish-requires-3 t) (join-nodes-enum-known-at0-2 t) (join-nodes-join-nodes-requires-3 t) (join-nodes-enum-known-b-2 t) (join-nodes-enum-told-3 t) (join-nodes-same-length-9 t) (join-nodes-same-length-10 t) (join-nodes-same-length-11 t) (join-nodes-same-length-12 t) (join-nodes-returns-3 t) (join-nodes-finish-requires-4 t) (join-nodes-same-length-13 t) (join-nodes-same-length-14 t) (join-nodes-same-length-15 t) (join-nodes-same-length-16 t) (join-nodes-returns-4 t) (join-nodes-same-length-17 t) (join-nodes-same-length-18 t) (join-nodes-same-length-19 t) (join-nodes-same-length-20 t) (join-nodes-returns-5 t) (join-nodes-same-length-21 t) (join-nodes-same-length-22 t) (join-nodes-same-length-23 t) (join-nodes-same-length-24 t) (join-nodes-returns-6 t) (join-nodes-same-length-25 t) (join-nodes-same-length-26 t) (join-nodes-same-length-27 t) (join-nodes-same-length-28 t) (join-nodes-returns-7 t))
++join-nodes-spec = close μ-join-nodes (λ t. join-nodes-lts.spec (calls t) (join-nodes-at t) join-nodes.Post (join-nodes-take-apart-requires t) (join-nodes-ask-requires t) (join-nodes-enum-known-r1 t) (join-nodes-ask-requires-2 t) (join-nodes-enum-known-r0 t) (join-nodes-finish-requires t) (join-nodes-enum-known-at0 t) (join-nodes-join-nodes-requires t) (join-nodes-enum-known-b t) (join-nodes-enum-told t) (join-nodes-full-requires t) (join-nodes-same-length t) (join-nodes-same-length-2 t) (join-nodes-same-length-3 t) (join-nodes-same-length-4 t) (join-nodes-returns t) (join-nodes-finish-requires-2 t) (join-nodes-enum-known-at1 t) (join-nodes-join-nodes-requires-2 t) (join-nodes-enum-known-a t) (join-nodes-enum-told-2 t) (join-nodes-full-requires-2 t) (join-nodes-same-length-5 t) (join-nodes-same-length-6 t) (join-nodes-same-length-7 t) (join-nodes-same-length-8 t) (join-nodes-returns-2 t) (join-nodes-ask-requires-3 t) (join-nodes-enum-known-r0-2 t) (join-nodes-finish-requires-3 t) (join-nodes-enum-known-at0-2 t) (join-nodes-join-nodes-requires-3 t) (join-nodes-enum-known-b-2 t) (join-nodes-enum-told-3 t) (join-nodes-full-requires-3 t) (join-nodes-same-length-9 t) (join-nodes-same-length-10 t) (join-nodes-same-length-11 t) (join-nodes-same-length-12 t) (join-nodes-returns-3 t) (join-nodes-finish-requires-4 t) (join-nodes-same-length-13 t) (join-nodes-same-length-14 t) (join-nodes-same-length-15 t) (join-nodes-same-length-16 t) (join-nodes-returns-4 t) (join-nodes-same-length-17 t) (join-nodes-same-length-18 t) (join-nodes-same-length-19 t) (join-nodes-same-length-20 t) (join-nodes-returns-5 t) (join-nodes-same-length-21 t) (join-nodes-same-length-22 t) (join-nodes-same-length-23 t) (join-nodes-same-length-24 t) (join-nodes-returns-6 t) (join-nodes-same-length-25 t) (join-nodes-same-length-26 t) (join-nodes-same-length-27 t) (join-nodes-same-length-28 t) (join-nodes-returns-7 t))
