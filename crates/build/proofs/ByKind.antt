@@ -22,7 +22,8 @@ use Rattle.store.specs.declared.Built.the-variants.{Done, Short}
 use Rattle.store.proofs.Building.{stops-more}
 use Rattle.store.proofs.Memory.{memo-map}
 use Rattle.joins.proofs.Recursion.{right-grown}
-use Rattle.build.specs.Memory.{inputOf, gateOf, Own}
+use Rattle.paper.specs.Flat.{inputOf, gateOf}
+use Rattle.build.specs.Memory.{Own}
 use Rattle.build.specs.Making.{Row, Within, Held, Gains, Lined}
 use Rattle.build.proofs.Making.{row-map, made-seq, made-stops, part-more}
 use Rattle.build.proofs.Rows.{codes-long, events-tidy}

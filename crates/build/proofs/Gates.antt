@@ -18,7 +18,8 @@ use Rattle.paper.specs.Diagrams.{Diagram, leaf}
 use Rattle.algebra.specs.Operations.{joinD, eventD, gateDiagrams, stepDiagrams}
 use Rattle.store.specs.declared.Built.{Built}
 use Rattle.build.specs.Rules.{inputD, eventStepsD, valueD, stepsD}
-use Rattle.build.specs.Memory.{inputOf, gateOf, gatesOf, startOf, gateAt, Plan, Own}
+use Rattle.paper.specs.Flat.{inputOf, gateOf, gatesOf}
+use Rattle.build.specs.Memory.{startOf, gateAt, Plan, Own}
 use Rattle.build.specs.Making.{Gains}
 
 -- ---- in memory

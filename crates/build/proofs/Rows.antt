@@ -27,7 +27,7 @@ use Rattle.store.specs.declared.Built.the-variants.{Done, Short}
 use Rattle.store.proofs.Denotes.{below-or-not, found-grown}
 use Rattle.store.proofs.Building.{makes-more, stops-more, is-part, sub-reduced, tidy-step}
 use Rattle.build.specs.Rules.{inputD, eventStepsD}
-use Rattle.build.specs.Memory.{gatesFrom, inputOf}
+use Rattle.paper.specs.Flat.{gatesFrom, inputOf}
 use Rattle.build.specs.Making.{All, Row, Within, Made, Named, Names, Lined}
 use Rattle.build.proofs.Making.{all-none, row-here, row-map, row-grown, at-map, map-long, made-here, made-one, made-seq, made-stops, stops-one, part-more}
 

@@ -24,7 +24,8 @@ use Rattle.store.proofs.Building.{step-more, only-none, only-step, only-more, l
 use Rattle.store.proofs.Counting.{nodes-done, nodes-full}
 use Rattle.store.proofs.Zeros.{zero-at, store-cleared, memo-cleared}
 use Rattle.build.specs.Rules.{valueD, stepsD}
-use Rattle.build.specs.Memory.{gatesOf, startOf, gateAt}
+use Rattle.paper.specs.Flat.{gatesOf}
+use Rattle.build.specs.Memory.{startOf, gateAt}
 use Rattle.build.specs.Making.{All, Within, Held, Gained}
 use Rattle.build.specs.Finishing.{Areas, Sofar, Whole, TooMany, Finishes}
 use Rattle.build.specs.declared.Finish.{Finish}

@@ -1,29 +1,12 @@
--- A tree in memory: the kind, the k and the n of each gate, and the inputs of all gates in a row.
+-- What the arrays of a tree in memory keep.
 -- Assumes nothing.
-use mathlib.Core.Bool.{cond}
-use mathlib.Core.List.{List, [], _∷_, map}
-use Prim.Native.Nat.{ℕ, _+_, _-_, _≤_, _<_}
-use lib.Dec.{ltb, eqb}
+use mathlib.Core.List.{List, map}
+use Prim.Native.Nat.{ℕ, _+_, _≤_, _<_}
 use lib.ListN.{length, getD, take, drop}
 use Rattle.paper.specs.Lists.{sum}
 use Rattle.paper.specs.Limits.{limits}
-use Rattle.paper.specs.Trees.{Input, event, gate, Gate, andG, orG, leastG}
-
--- the input that stands for gate 0: an event's input is its number, and a gate's is its number with this added
-abbrev pub gatesFrom : ℕ
-gatesFrom = 256
-
-abbrev pub inputOf : ℕ → Input
-inputOf code = cond (ltb code gatesFrom) (event code) (gate (code - gatesFrom))
-
-abbrev pub gateOf : ℕ → ℕ → List Input → Gate
-gateOf kind k is = cond (eqb kind 2) (andG is) (cond (eqb kind 3) (orG is) (leastG k is))
-
--- the gates from g on, each with its n of the inputs that are left
-unfoldable pub gatesOf : List ℕ → List ℕ → ℕ → List ℕ → List ℕ → List Gate
-gatesOf kinds leasts g [] inputs = []
-gatesOf kinds leasts g (n ∷ sizes) inputs =
-    gateOf (getD kinds g 0) (getD leasts g 0) (map inputOf (take n inputs)) ∷ gatesOf kinds leasts (g + 1) sizes (drop n inputs)
+use Rattle.paper.specs.Trees.{Gate}
+use Rattle.paper.specs.Flat.{gatesFrom, inputOf, gateOf}
 
 -- the inputs of gate g start behind those of the gates before
 abbrev pub startOf : List ℕ → ℕ → ℕ

@@ -12,7 +12,8 @@ ghost use Rattle.tables.specs.Table.{den};
 ghost use Rattle.store.specs.Store.{Store};
 ghost use Rattle.store.specs.Building.{Is, Builds};
 ghost use Rattle.build.specs.Rules.{inputD};
-ghost use Rattle.build.specs.Memory.{gatesFrom, inputOf, Own};
+ghost use Rattle.paper.specs.Flat.{gatesFrom, inputOf};
+ghost use Rattle.build.specs.Memory.{Own};
 ghost use Rattle.build.specs.Making.{Within, Names, Lines};
 
 // The input that stands for gate 0.

@@ -17,7 +17,8 @@ ghost use Rattle.paper.specs.Limits.{limits};
 ghost use Rattle.tables.specs.Table.{den};
 ghost use Rattle.joins.specs.Joins.{bit};
 ghost use Rattle.build.specs.Rules.{joinAllD, joinStepsD, valueD, stepsD, kindD, kindStepsD};
-ghost use Rattle.build.specs.Memory.{inputOf, gateOf, gatesOf, startOf, gateAt, Plan, Own};
+ghost use Rattle.paper.specs.Flat.{inputOf, gateOf, gatesOf};
+ghost use Rattle.build.specs.Memory.{startOf, gateAt, Plan, Own};
 ghost use Rattle.build.specs.Making.{Within, Held, Gains};
 ghost use Rattle.build.specs.Finishing.{Areas, Sofar, Finishes};
 

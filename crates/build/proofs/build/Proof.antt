@@ -1,7 +1,7 @@
 use borrow.Author.Needs.{needs}
 use mathlib.Core.Path.{_∙_}
 use native.Mathlib.Omega.{arith}
-use Rattle.build.specs.Memory.{gatesOf}
+use Rattle.paper.specs.Flat.{gatesOf}
 use Rattle.build.proofs.Sofar.{sofar-cleared, same-room}
 use Rattle.build.proofs.build.Statement.{statement}
 use Rattle.build.proofs.build.Tie as tie

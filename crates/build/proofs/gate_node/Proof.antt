@@ -5,7 +5,7 @@ use Prim.Native.Nat.{ℕ}
 use lib.ListN.{length-replicate}
 use native.Mathlib.Omega.{arith}
 use Rattle.tables.specs.Table.{den}
-use Rattle.build.specs.Memory.{inputOf}
+use Rattle.paper.specs.Flat.{inputOf}
 use Rattle.build.proofs.ByKind.{gate-held, row-fits, row-long, row-some, row-within, gate-gains, gate-short}
 use Rattle.build.proofs.gate_node.Statement.{statement}
 use Rattle.build.proofs.gate_node.Tie as tie
