@@ -13,15 +13,10 @@ use Rattle.paper.specs.Flat.{gatesFrom}
 use Rattle.records.specs.Judge.{Book, start, Outcome, accept, refuse, outcome}
 use Rattle.records.specs.Memory.{pad, memory, inMemory}
 use Rattle.records.specs.Trees.{Lawful}
-use Rattle.records.specs.declared.Tree.{Tree}
-use Rattle.records.proofs.Pad.{pad-take}
+use Rattle.records.proofs.Pad.{pad-take, pad-length}
 use Rattle.records.proofs.InMemory.{pad-at}
 use Rattle.records.proofs.Lawful.{lawful}
-use Rattle.build.specs.Memory.{startOf, Plan}
-
--- the arrays of a tree in memory
-abbrev pub PlanOf : Tree → Type 0
-PlanOf t = Plan (t .kinds) (t .leasts) (take (t .«gate_count») (t .sizes)) (t .inputs)
+use Rattle.build.specs.Memory.{startOf, Plan, Arrays}
 
 pad-long : (n : ℕ) (xs : List ℕ) → length xs ≤ length (pad n 0 xs)
 unfolding pad
@@ -43,27 +38,41 @@ plan-pad b l = record {
     go g h (yes e) = l .leasts g h e .1
     go g h (no n) = let z = l .plain g h n in omega arith
 
-pub plan-memory : (b : Book) → Lawful limits b → PlanOf (memory b)
+pub arrays-memory : (b : Book) → Lawful limits b → Arrays (memory b)
 unfolding memory
-plan-memory b l = subst (λ s. Plan (pad (limits .gates) 0 (b .kinds)) (pad (limits .gates) 0 (b .leasts)) s (pad (limits .inAll) 0 (b .inputs))) (sym (pad-take (limits .gates) 0 (b .sizes))) (plan-pad b l)
+arrays-memory b l = record {
+  few-gates = l .fewGates;
+  all-kinds = pad-length (limits .gates) 0 (b .kinds) (let e = l .sameKinds in let f = l .fewGates in omega arith);
+  all-leasts = pad-length (limits .gates) 0 (b .leasts) (let e = l .sameLeasts in let f = l .fewGates in omega arith);
+  all-sizes = pad-length (limits .gates) 0 (b .sizes) (l .fewGates);
+  all-inputs = pad-length (limits .inAll) 0 (b .inputs) (l .fewInputs);
+  plan = subst (λ s. Plan (pad (limits .gates) 0 (b .kinds)) (pad (limits .gates) 0 (b .leasts)) s (pad (limits .inAll) 0 (b .inputs))) (sym (pad-take (limits .gates) 0 (b .sizes))) (plan-pad b l);
+}
 
-plan-none : PlanOf (memory start)
+arrays-none : Arrays (memory start)
 unfolding memory
-plan-none = record {
-  has-kinds = omega arith;
-  has-leasts = omega arith;
-  has-inputs = omega arith;
-  some = λ g h. absurd (omega arith);
-  few = λ g h. absurd (omega arith);
-  least = λ g h. absurd (omega arith);
-  earlier = λ g j h. absurd (omega arith);
+arrays-none = record {
+  few-gates = omega arith;
+  all-kinds = pad-length (limits .gates) 0 [] (omega arith);
+  all-leasts = pad-length (limits .gates) 0 [] (omega arith);
+  all-sizes = pad-length (limits .gates) 0 [] (omega arith);
+  all-inputs = pad-length (limits .inAll) 0 [] (omega arith);
+  plan = record {
+    has-kinds = omega arith;
+    has-leasts = omega arith;
+    has-inputs = omega arith;
+    some = λ g h. absurd (omega arith);
+    few = λ g h. absurd (omega arith);
+    least = λ g h. absurd (omega arith);
+    earlier = λ g j h. absurd (omega arith);
+  };
 }
 
 -- whatever the bytes
-pub plan-read : (bytes : List ℕ) → PlanOf (inMemory (outcome limits bytes) .tree)
+pub arrays-read : (bytes : List ℕ) → Arrays (inMemory (outcome limits bytes) .tree)
 unfolding inMemory
-plan-read bytes = go (outcome limits bytes) refl
+arrays-read bytes = go (outcome limits bytes) refl
   where
-    go : (o : Outcome) → outcome limits bytes ≡ o → PlanOf (inMemory (outcome limits bytes) .tree)
-    go (accept b) e = rw e (plan-memory b (lawful bytes b e))
-    go (refuse a) e = rw e plan-none
+    go : (o : Outcome) → outcome limits bytes ≡ o → Arrays (inMemory (outcome limits bytes) .tree)
+    go (accept b) e = rw e (arrays-memory b (lawful bytes b e))
+    go (refuse a) e = rw e arrays-none
