@@ -1,23 +1,21 @@
 -- The gates of a tree, one by one: the tree in memory, and what one gate more adds to the diagrams and to the steps.
 -- Assumes nothing.
 use mathlib.Core.Path.{_≡_, refl, sym, ap, ap₂, _∙_, subst}
-use mathlib.Core.Logic.{_⊎_, inl, inr}
-use mathlib.Core.Bool.{Bool, true, false, cond}
+use mathlib.Core.Logic.{inl, inr}
 use mathlib.Core.List.{List, [], _∷_, _++_, map, append-assoc, append-nil}
 use Prim.Native.Nat.{ℕ, zero, suc, _+_, _-_, _≤_, _<_}
 use native.Mathlib.Omega.{arith}
 use native.Mathlib.Numerals.{add-one}
-use lib.Dec.{ltb, eqb}
 use lib.ListN.{length, take, drop, getD, length-drop}
 use lib.Seq.{take-suc, drop-drop, length-take-le, getD-take, getD-drop}
 use Rattle.paper.specs.Lists.{In, sum}
 use Rattle.paper.specs.Limits.{limits}
-use Rattle.paper.specs.Trees.{Input, event, gate, Gate, andG, orG, leastG}
-use Rattle.paper.specs.Steps.{valuesFrom, stepsFrom, eventSteps}
+use Rattle.paper.specs.Trees.{gate, Gate, andG}
+use Rattle.paper.specs.Steps.{valuesFrom, stepsFrom}
 use Rattle.paper.specs.Diagrams.{Diagram, leaf}
 use Rattle.algebra.specs.Operations.{joinD, eventD, gateDiagrams, stepDiagrams}
 use Rattle.store.specs.declared.Built.{Built}
-use Rattle.build.specs.Rules.{inputD, eventStepsD, valueD, stepsD}
+use Rattle.build.specs.Rules.{valueD, stepsD}
 use Rattle.paper.specs.Flat.{inputOf, gateOf, gatesOf}
 use Rattle.build.specs.Memory.{startOf, gateAt, Plan, Own}
 use Rattle.build.specs.Making.{Gains}

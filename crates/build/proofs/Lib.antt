@@ -11,4 +11,5 @@ pub mod ByKind
 pub mod Sofar
 pub mod Needed
 pub mod Meaning
+pub mod Renumber
 pub mod Reading

@@ -2,11 +2,11 @@
 -- Assumes nothing.
 use mathlib.Core.Path.{_≡_, refl, sym, ap, _∙_, subst}
 use mathlib.Core.Logic.{_⊎_, inl, inr}
-use mathlib.Core.Bool.{Bool, true, false}
+use mathlib.Core.Bool.{true, false}
 use mathlib.Core.List.{List, [], _∷_, _++_, map}
-use Prim.Native.Nat.{ℕ, zero, suc, _+_, _≤_, _<_}
+use Prim.Native.Nat.{ℕ, zero, suc, _<_}
 use native.Mathlib.Omega.{arith}
-use lib.ListN.{length, getD, List·getD-map, length-map}
+use lib.ListN.{length, getD}
 use lib.Seq.{ext-getD}
 use Rattle.paper.specs.Lists.{In}
 use Rattle.paper.specs.Diagrams.{Diagram, leaf}
@@ -15,9 +15,9 @@ use Rattle.tables.specs.Table.{den}
 use Rattle.tables.specs.Stored.{Lower}
 use Rattle.tables.proofs.Den.{den-0, den-1}
 use Rattle.store.specs.Store.{Store, Grown}
-use Rattle.store.specs.Building.{Is, Part, PartOf, Found, Step, Makes, Stops}
+use Rattle.store.specs.Building.{Part, PartOf, Found, Step, Makes, Stops}
 use Rattle.store.proofs.Denotes.{found-grown}
-use Rattle.store.proofs.Building.{step-here, step-more, stops-more, step-seq, stops-seq, is-part}
+use Rattle.store.proofs.Building.{step-here, step-more, stops-more, step-seq, stops-seq}
 use Rattle.build.specs.Making.{All, Row, Within, Made}
 
 -- ---- the leaves

@@ -1,10 +1,10 @@
 -- What the numbers of a built table mean: the gates' functions, one number for one function, and a table that passes the check of a lent diagram.
 -- Assumes nothing.
 use mathlib.Core.Path.{_≡_, refl, sym, ap, _∙_, subst}
-use mathlib.Core.Logic.{_≢_, _⊎_, inl, inr, _↔_}
-use mathlib.Core.Bool.{Bool, true, false}
+use mathlib.Core.Logic.{_⊎_, inl, inr, _↔_}
+use mathlib.Core.Bool.{false}
 use mathlib.Core.List.{List, [], _∷_}
-use Prim.Native.Nat.{ℕ, zero, suc, _+_, _-_, _*_, _%_, _≤_, _<_}
+use Prim.Native.Nat.{ℕ, zero, suc, _+_, _-_, _%_, _≤_, _<_}
 use native.Mathlib.Omega.{arith}
 use lib.ListN.{length, getD}
 use Rattle.paper.specs.Lists.{In, lastOr}
@@ -13,8 +13,8 @@ use Rattle.paper.specs.Sets.{Set}
 use Rattle.paper.specs.Functions.{Fun}
 use Rattle.paper.specs.Trees.{Gate, TreeBelow, constF, gateFuns, rootFun}
 use Rattle.paper.specs.Steps.{stepFuns}
-use Rattle.paper.specs.Diagrams.{Diagram, leaf, node, eval, Ordered, Reduced}
-use Rattle.algebra.specs.Operations.{subs, isNode, gateDiagrams, stepDiagrams}
+use Rattle.paper.specs.Diagrams.{Diagram, leaf, node, eval, Ordered}
+use Rattle.algebra.specs.Operations.{subs, gateDiagrams, stepDiagrams}
 use Rattle.algebra.proofs.Base.{widen}
 use Rattle.algebra.proofs.Lists.{in-append}
 use Rattle.algebra.proofs.Plain.{Good, canonical}
@@ -24,7 +24,7 @@ use Rattle.algebra.proofs.Promises.{root-shows}
 use Rattle.tables.specs.Table.{eventOf, failedOf, soundOf, den}
 use Rattle.tables.specs.Lent.{Above, Node, Kind, Lent}
 use Rattle.tables.proofs.Den.{den-0, den-1, den-node}
-use Rattle.store.specs.Building.{PartOf, Found}
+use Rattle.store.specs.Building.{Found}
 use Rattle.store.proofs.Denotes.{below-or-not, den-inj}
 use Rattle.build.specs.Finishing.{Whole}
 use Rattle.build.proofs.Gates.{diagrams-length}
@@ -84,6 +84,13 @@ module _ (n : ℕ) (t : List Gate) (b : TreeBelow n t) {G T H X : List ℕ} {roo
   -- A GATE'S NUMBER denotes the gate's function
   pub gate-shows : (i : ℕ) → Shows n (den T (getD G i 0)) (getD (gateFuns t) i (constF false))
   gate-shows i = subst (λ d. Shows n d (getD (gateFuns t) i (constF false))) (sym (w .gates i .is)) (pairs-at n (gateDiagrams t) (gateFuns t) i (gates-show n t b))
+
+  -- two gates have the same number exactly when their diagrams are one
+  pub gates-same : (i j : ℕ) → (getD G i 0 ≡ getD G j 0) ↔ (getD (gateDiagrams t) i (leaf false) ≡ getD (gateDiagrams t) j (leaf false))
+  gates-same i j = (
+    (λ e. sym (w .gates i .is) ∙ ap (den T) e ∙ w .gates j .is),
+    (λ e. den-inj (w .store) (getD G i 0) (getD G j 0) (w .gates i .within) (w .gates j .within) (w .gates i .is ∙ e ∙ sym (w .gates j .is))),
+  )
 
   -- ONE NUMBER FOR ONE FUNCTION: two gates have the same number exactly when they agree on every set
   pub gates-agree : (i j : ℕ) → (getD G i 0 ≡ getD G j 0) ↔ ((v : Set) → getD (gateFuns t) i (constF false) v ≡ getD (gateFuns t) j (constF false) v)

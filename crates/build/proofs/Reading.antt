@@ -1,13 +1,11 @@
 -- The arrays of a tree that was read are what building asks for; of a refused one they are those of no gate.
 -- Assumes nothing.
-use mathlib.Core.Path.{_≡_, refl, sym, ap, _∙_, subst}
-use mathlib.Core.Logic.{_⊎_, inl, inr}
-use mathlib.Core.List.{List, [], _++_}
+use mathlib.Core.Path.{_≡_, refl, sym, subst}
+use mathlib.Core.List.{List, []}
 use Prim.Native.Nat.{ℕ, _+_, _-_, _≤_, _<_}
 use native.Mathlib.Omega.{arith}
 use native.Mathlib.Decide.{ℕ-discrete}
-use lib.ListN.{length, getD, take, replicate, length-append}
-use Rattle.paper.specs.Lists.{sum}
+use lib.ListN.{length, getD, replicate, length-append}
 use Rattle.paper.specs.Limits.{limits}
 use Rattle.paper.specs.Flat.{gatesFrom}
 use Rattle.records.specs.Judge.{Book, start, Outcome, accept, refuse, outcome}

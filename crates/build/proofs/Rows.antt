@@ -2,33 +2,32 @@
 -- Assumes nothing.
 use mathlib.Core.Path.{_≡_, refl, sym, ap, ap₂, _∙_, subst}
 use mathlib.Core.Logic.{_⊎_, inl, inr}
-use mathlib.Core.Bool.{Bool, true, false, cond, true≢false}
+use mathlib.Core.Bool.{false, true≢false}
 use mathlib.Core.List.{List, [], _∷_, _++_, map}
 use Prim.Native.Nat.{ℕ, zero, suc, _+_, _-_, _≤_, _<_}
 use native.Mathlib.Omega.{arith}
 use native.Mathlib.Numerals.{add-one}
 use lib.ListN.{length, take, getD, set, length-set}
 use lib.Seq.{take-suc, take-all, getD-set-same, getD-set-other}
-use lib.Dec.{ltb}
 use borrow.Author.Tests.{lt-ltb, le-ltb}
 use Rattle.paper.specs.Lists.{In}
 use Rattle.paper.specs.Trees.{Input, event, gate}
 use Rattle.paper.specs.Sets.{none}
 use Rattle.paper.specs.Limits.{limits}
 use Rattle.paper.specs.Diagrams.{Diagram, leaf, node, eval, Reduced}
-use Rattle.algebra.specs.Operations.{eventD, subs}
+use Rattle.algebra.specs.Operations.{eventD}
 use Rattle.algebra.proofs.Lists.{map-append}
 use Rattle.tables.specs.Table.{den}
 use Rattle.tables.proofs.Den.{den-0, den-1}
 use Rattle.store.specs.Store.{Store}
-use Rattle.store.specs.Building.{Is, Part, PartOf, Found, Stops, Builds, Tidy}
+use Rattle.store.specs.Building.{Is, PartOf, Found, Stops, Builds, Tidy}
 use Rattle.store.specs.declared.Built.{Built}
 use Rattle.store.specs.declared.Built.the-variants.{Done, Short}
-use Rattle.store.proofs.Denotes.{below-or-not, found-grown}
+use Rattle.store.proofs.Denotes.{below-or-not}
 use Rattle.store.proofs.Building.{makes-more, stops-more, is-part, sub-reduced, tidy-step}
 use Rattle.build.specs.Rules.{inputD, eventStepsD}
 use Rattle.paper.specs.Flat.{gatesFrom, inputOf}
-use Rattle.build.specs.Making.{All, Row, Within, Made, Named, Names, Lined}
+use Rattle.build.specs.Making.{Row, Within, Made, Named, Names, Lined}
 use Rattle.build.proofs.Making.{all-none, row-here, row-map, row-grown, at-map, map-long, made-here, made-one, made-seq, made-stops, stops-one, part-more}
 
 -- ---- one input

@@ -1,7 +1,7 @@
 -- Gate by gate: after the first g gates the table has the nodes of their steps and no other, and the list has their nodes.
 -- Assumes nothing.
 use mathlib.Core.Path.{_≡_, refl, sym, ap, _∙_, subst}
-use mathlib.Core.Logic.{_≢_, _⊎_, inl, inr}
+use mathlib.Core.Logic.{_≢_}
 use mathlib.Core.Bool.{false}
 use mathlib.Core.List.{List, [], _∷_, _++_, map}
 use Prim.Native.Nat.{ℕ, zero, suc, _+_, _-_, _*_, _/_, _≤_, _<_}
@@ -17,7 +17,6 @@ use Rattle.algebra.specs.Operations.{nodeCount, gateDiagrams, stepDiagrams}
 use Rattle.algebra.proofs.Lists.{in-left, in-right}
 use Rattle.tables.specs.Table.{den}
 use Rattle.tables.proofs.Den.{den-0}
-use Rattle.store.specs.Store.{Store}
 use Rattle.store.specs.Building.{PartOf, Found, Step, Stops, Only}
 use Rattle.store.proofs.Denotes.{found-grown}
 use Rattle.store.proofs.Building.{step-more, only-none, only-step, only-more, lacks-more, tidy-none}
@@ -26,7 +25,7 @@ use Rattle.store.proofs.Zeros.{zero-at, store-cleared, memo-cleared}
 use Rattle.build.specs.Rules.{valueD, stepsD}
 use Rattle.paper.specs.Flat.{gatesOf}
 use Rattle.build.specs.Memory.{startOf, gateAt}
-use Rattle.build.specs.Making.{All, Within, Held, Gained}
+use Rattle.build.specs.Making.{All, Within, Gained}
 use Rattle.build.specs.Finishing.{Areas, Sofar, Whole, TooMany, Finishes}
 use Rattle.build.specs.declared.Finish.{Finish}
 use Rattle.build.proofs.Making.{found-0, all-none, all-append, all-grown, part-more}

@@ -13,7 +13,6 @@ use Rattle.paper.specs.Lists.{In}
 use Rattle.paper.specs.Limits.{limits}
 use Rattle.paper.specs.Diagrams.{Diagram, leaf}
 use Rattle.algebra.specs.Operations.{joinD}
-use Rattle.algebra.proofs.Lists.{in-append}
 use Rattle.tables.specs.Stored.{Lower}
 use Rattle.store.specs.Store.{Grown}
 use Rattle.store.specs.Building.{Found}

@@ -1,10 +1,10 @@
 -- The loops of at-least: pair by pair, and input by input.
 -- Assumes nothing.
-use mathlib.Core.Path.{_≡_, refl, sym, ap, ap₂, _∙_, subst}
+use mathlib.Core.Path.{_≡_, refl, sym, ap₂, _∙_, subst}
 use mathlib.Core.Logic.{_⊎_, inl, inr}
-use mathlib.Core.Bool.{Bool, true, false}
-use mathlib.Core.List.{List, [], _∷_, _++_, map}
-use Prim.Native.Nat.{ℕ, zero, suc, _+_, _-_, _≤_, _<_}
+use mathlib.Core.Bool.{true, false}
+use mathlib.Core.List.{List, [], _∷_, map}
+use Prim.Native.Nat.{ℕ, suc, _+_, _-_, _≤_, _<_}
 use native.Mathlib.Omega.{arith}
 use lib.ListN.{length, getD, set, drop, replicate, length-set, length-replicate}
 use lib.Seq.{getD-set-same, getD-set-other}
@@ -13,17 +13,15 @@ use Rattle.paper.specs.Limits.{limits}
 use Rattle.paper.specs.Diagrams.{Diagram, leaf}
 use Rattle.algebra.specs.Operations.{joinD}
 use Rattle.tables.specs.Table.{den}
-use Rattle.tables.specs.Stored.{Lower}
-use Rattle.store.specs.Store.{Store, Grown}
 use Rattle.store.specs.Building.{Part, PartOf, Found, Step, Stops}
 use Rattle.store.specs.declared.Built.{Built}
 use Rattle.store.specs.declared.Built.the-variants.{Done, Short}
 use Rattle.store.proofs.Denotes.{den-grown}
 use Rattle.store.proofs.Zeros.{zero-at}
 use Rattle.store.proofs.Building.{step-here, step-more, stops-more, step-seq, stops-seq}
-use Rattle.joins.specs.Joins.{bit, Ready, Joined, Joins}
+use Rattle.joins.specs.Joins.{Ready, Joined, Joins}
 use Rattle.build.specs.Rules.{leastD, leastStepsD}
-use Rattle.build.specs.Making.{All, Row, Within, Held, Made, Gained, Gains, Pair, Reached, Highest, Lowest, Taken}
+use Rattle.build.specs.Making.{Row, Within, Held, Gained, Gains, Pair, Reached, Highest, Lowest, Taken}
 use Rattle.build.proofs.Making.{row-here, row-grown, row-map, map-long, made-one, made-seq, made-stops, stops-one, part-more}
 use Rattle.build.proofs.Stages.{Taking, taking-start, taking-end, Due, both, whole, due-steps, less-here, more-here, taking-next, reached-none}
 

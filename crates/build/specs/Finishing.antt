@@ -7,7 +7,7 @@ use Prim.Native.Nat.{ℕ, _+_, _-_, _*_, _≤_, _<_}
 use lib.ListN.{length, getD, take}
 use Rattle.paper.specs.Limits.{mostNumbers}
 use Rattle.paper.specs.Trees.{Gate}
-use Rattle.paper.specs.Diagrams.{Diagram, leaf}
+use Rattle.paper.specs.Diagrams.{leaf}
 use Rattle.algebra.specs.Operations.{nodeCount, gateDiagrams, stepDiagrams}
 use Rattle.store.specs.Store.{Store}
 use Rattle.store.specs.Building.{PartOf, Found, Only, Tidy}

@@ -5,7 +5,7 @@ use mathlib.Core.List.{List}
 use Prim.Native.Nat.{ℕ}
 use lib.Dec.{eqb}
 use Rattle.paper.specs.Trees.{Input, Gate}
-use Rattle.paper.specs.Steps.{joinAll, joinAllSteps, least, leastSteps, input, value, eventSteps, steps, valuesFrom, stepsFrom}
+use Rattle.paper.specs.Steps.{joinAll, joinAllSteps, least, leastSteps, input, value, eventSteps, steps}
 use Rattle.paper.specs.Diagrams.{Diagram, leaf}
 use Rattle.algebra.specs.Operations.{joinD, eventD}
 

@@ -4,7 +4,6 @@ use crate::Count;
 use joins::join;
 use paper::INPUTS;
 use store::Built;
-ghost use mathlib.Core.Path.{_≡_};
 ghost use mathlib.Core.Bool.{true, false};
 ghost use mathlib.Core.List.{map, [], _∷_};
 ghost use Prim.Native.Nat.{_+_, _<_, _≤_};

@@ -1,5 +1,4 @@
 use borrow.Author.Needs.{needs}
-use mathlib.Core.Path.{_∙_}
 use native.Mathlib.Omega.{arith}
 use Rattle.paper.specs.Flat.{gatesOf}
 use Rattle.build.proofs.Sofar.{sofar-cleared, same-room}

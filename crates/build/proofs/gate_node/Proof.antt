@@ -3,7 +3,6 @@ use mathlib.Core.Path.{sym}
 use mathlib.Core.List.{map}
 use Prim.Native.Nat.{ℕ}
 use lib.ListN.{length-replicate}
-use native.Mathlib.Omega.{arith}
 use Rattle.tables.specs.Table.{den}
 use Rattle.paper.specs.Flat.{inputOf}
 use Rattle.build.proofs.ByKind.{gate-held, row-fits, row-long, row-some, row-within, gate-gains, gate-short}

@@ -1,9 +1,7 @@
 use borrow.Author.Needs.{needs}
 use mathlib.Core.Path.{_≡_, refl, _∙_}
-use mathlib.Core.List.{map}
 use native.Mathlib.Omega.{arith}
 use lib.ListN.{length}
-use Rattle.tables.specs.Table.{den}
 use Rattle.build.proofs.Taking.{Pairing, pairing-start, x-here, less-in, more-in, pairing-next, pairing-short, pairing-end}
 use Rattle.build.proofs.least.take_input.Statement.{statement}
 use Rattle.build.proofs.least.take_input.Tie as tie
