@@ -2,8 +2,9 @@
 -- Assumes nothing.
 use mathlib.Core.Path.{_≡_, sym, ap, ap₂, _∙_, subst}
 use mathlib.Core.List.{List}
-use Prim.Native.Nat.{ℕ, _+_, _-_, _<_, min, max}
+use Prim.Native.Nat.{ℕ, _+_, _-_, _/_, _<_, min, max}
 use native.Mathlib.Omega.{arith}
+use lib.ListN.{length}
 use Rattle.paper.specs.Lists.{In}
 use Rattle.paper.specs.Diagrams.{Diagram, Reduced, mkD}
 use Rattle.algebra.specs.Operations.{joinD, subs}
@@ -13,7 +14,7 @@ use Rattle.tables.specs.Table.{den}
 use Rattle.tables.specs.Stored.{Lower}
 use Rattle.store.specs.Store.{Grown}
 use Rattle.store.specs.Building.{Is, Part, Found, Step, Stops}
-use Rattle.store.specs.Memo.{Place}
+use Rattle.store.specs.Memo.{Memo, Place}
 use Rattle.store.specs.declared.Built.{Built}
 use Rattle.store.specs.declared.Built.the-variants.{Done, Short}
 use Rattle.store.proofs.Denotes.{den-grown}
@@ -36,7 +37,14 @@ right-grown w k op f g r x = let m = k .more in record {
   };
 }
 
-module _ {T H X M : List ℕ} {c z f g : ℕ} {p : Parts} (rd : Ready T H X M c z f g) (ap : Parted T f g p) where
+pub memo-grown : {T T′ M : List ℕ} {c c′ : ℕ} → Lower T c → Grown T c T′ c′ → Memo (Right T c) M → Memo (Right T′ c′) M
+memo-grown w k m = memo-map (right-grown w k) m
+
+-- a full table has as many nodes as it has room for
+full-is : {W : Diagram → Type 0} {T : List ℕ} {c : ℕ} {T′ H′ X′ : List ℕ} {c′ : ℕ} → Stops W T c T′ H′ X′ c′ → {s : Built} → s ≡ Short (length T′ / 3) → Short c′ ≡ s
+full-is x w = ap Short (x .lacks .full) ∙ sym w
+
+module _ {T H X M : List ℕ} {c z f g : ℕ} {p : Parts} (rd : Ready T H X M c z f g) (pt : Parted T f g p) where
   -- the whole and its two halves
   abbrev whole : Diagram
   whole = joinD (bit z) (den T f) (den T g)
@@ -48,13 +56,13 @@ module _ {T H X M : List ℕ} {c z f g : ℕ} {p : Parts} (rd : Ready T H X M c 
   half-0 = joinD (bit z) (den T (p .f0)) (den T (p .g0))
 
   inside-1 : In half-1 (subs whole)
-  inside-1 = rw (ap .joins (bit z)) (mk-subs (p .e) half-1 half-0 .0)
+  inside-1 = rw (pt .joins (bit z)) (mk-subs (p .e) half-1 half-0 .0)
 
   inside-0 : In half-0 (subs whole)
-  inside-0 = rw (ap .joins (bit z)) (mk-subs (p .e) half-1 half-0 .1)
+  inside-0 = rw (pt .joins (bit z)) (mk-subs (p .e) half-1 half-0 .1)
 
   pub ready-1 : Ready T H X M c z (p .f1) (p .g1)
-  ready-1 = let a = ap .in-1 in let b = ap .order-1 in let x = rd .f-in in let y = rd .g-in in record {
+  ready-1 = let a = pt .in-1 in let b = pt .order-1 in let x = rd .f-in in let y = rd .g-in in record {
     store = rd .store;
     tidy = rd .tidy;
     memo = rd .memo;
@@ -64,15 +72,17 @@ module _ {T H X M : List ℕ} {c z f g : ℕ} {p : Parts} (rd : Ready T H X M c 
   }
 
   -- a full table in the first half
-  pub short-1 : (T₁ H₁ X₁ M₁ : List ℕ) {r : Built} {c₁ : ℕ} → r ≡ Short c₁ → Joins T M c half-1 T₁ H₁ X₁ M₁ r → Joins T M c whole T₁ H₁ X₁ M₁ r
-  short-1 T₁ H₁ X₁ M₁ q h = subst (Joins T M c whole T₁ H₁ X₁ M₁) (sym q) (stops-more (part-trans inside-1) (subst (Joins T M c half-1 T₁ H₁ X₁ M₁) q h))
+  pub short-1 : (T₁ H₁ X₁ M₁ : List ℕ) {r : Built} {c₁ : ℕ} → r ≡ Short c₁ → Joins T M c half-1 T₁ H₁ X₁ M₁ r → {s : Built} → s ≡ Short (length T₁ / 3) → Joins T M c whole T₁ H₁ X₁ M₁ s
+  short-1 T₁ H₁ X₁ M₁ q h w =
+      let x = subst (Joins T M c half-1 T₁ H₁ X₁ M₁) q h in
+      subst (Joins T M c whole T₁ H₁ X₁ M₁) (full-is x w) (stops-more (part-trans inside-1) x)
 
   module _ {T₁ H₁ X₁ M₁ : List ℕ} {c₁ r₁ : ℕ} (a : Joined T M c half-1 T₁ H₁ X₁ M₁ c₁ r₁) where
     step-1 : Step (Part whole) T c T₁ H₁ X₁ c₁
     step-1 = step-more (part-trans inside-1) (a .makes .step)
 
     pub ready-0 : Ready T₁ H₁ X₁ M₁ c₁ z (p .f0) (p .g0)
-    ready-0 = let u = ap .in-0 in let v = ap .order-0 in let x = rd .f-in in let y = rd .g-in in let w = a .makes .step .grown .more in record {
+    ready-0 = let u = pt .in-0 in let v = pt .order-0 in let x = rd .f-in in let y = rd .g-in in let w = a .makes .step .grown .more in record {
       store = a .makes .step .store;
       tidy = a .tidy;
       memo = a .memo;
@@ -87,16 +97,17 @@ module _ {T H X M : List ℕ} {c z f g : ℕ} {p : Parts} (rd : Ready T H X M c 
 
     now-is : half-now ≡ half-0
     now-is =
-        let u = ap .in-0 in let v = ap .order-0 in let x = rd .f-in in let y = rd .g-in in
+        let u = pt .in-0 in let v = pt .order-0 in let x = rd .f-in in let y = rd .g-in in
         ap₂ (joinD (bit z)) (den-grown (rd .store .lower) (a .makes .step .grown) (p .f0) (omega arith)) (den-grown (rd .store .lower) (a .makes .step .grown) (p .g0) (omega arith))
 
     inside-now : In half-now (subs whole)
     inside-now = subst (λ d. In d (subs whole)) (sym now-is) inside-0
 
     -- a full table in the second half
-    pub short-0 : (T₂ H₂ X₂ M₂ : List ℕ) {r : Built} {c₂ : ℕ} → r ≡ Short c₂ → Joins T₁ M₁ c₁ half-now T₂ H₂ X₂ M₂ r → Joins T M c whole T₂ H₂ X₂ M₂ r
-    short-0 T₂ H₂ X₂ M₂ q h =
-        subst (Joins T M c whole T₂ H₂ X₂ M₂) (sym q) (stops-seq step-1 (stops-more (part-trans inside-now) (subst (Joins T₁ M₁ c₁ half-now T₂ H₂ X₂ M₂) q h)))
+    pub short-0 : (T₂ H₂ X₂ M₂ : List ℕ) {r : Built} {c₂ : ℕ} → r ≡ Short c₂ → Joins T₁ M₁ c₁ half-now T₂ H₂ X₂ M₂ r → {s : Built} → s ≡ Short (length T₂ / 3) → Joins T M c whole T₂ H₂ X₂ M₂ s
+    short-0 T₂ H₂ X₂ M₂ q h w =
+        let x = subst (Joins T₁ M₁ c₁ half-now T₂ H₂ X₂ M₂) q h in
+        subst (Joins T M c whole T₂ H₂ X₂ M₂) (full-is x w) (stops-seq step-1 (stops-more (part-trans inside-now) x))
 
     module _ {T₂ H₂ X₂ M₂ : List ℕ} {c₂ r₀ : ℕ} (b : Joined T₁ M₁ c₁ half-now T₂ H₂ X₂ M₂ c₂ r₀) where
       step-2 : Step (Part whole) T c T₂ H₂ X₂ c₂
@@ -118,7 +129,7 @@ module _ {T H X M : List ℕ} {c z f g : ℕ} {p : Parts} (rd : Ready T H X M c 
       last = mkD (p .e) (den T₂ r₁) (den T₂ r₀)
 
       last-is : last ≡ whole
-      last-is = ap₂ (mkD (p .e)) (found-1 .is) (b .makes .found .is ∙ now-is) ∙ sym (ap .joins (bit z))
+      last-is = ap₂ (mkD (p .e)) (found-1 .is) (b .makes .found .is ∙ now-is) ∙ sym (pt .joins (bit z))
 
       last-part : (E : Diagram) → Is last E → Part whole E
       last-part E q = is-part E (record { is = q .is ∙ last-is; node = q .node })
@@ -149,7 +160,7 @@ module _ {T H X M : List ℕ} {c z f g : ℕ} {p : Parts} (rd : Ready T H X M c 
           record {
             makes = record { step = s; found = found };
             tidy = tidy-step (b .makes .step .store) (b .tidy) last-reduced (k .makes .step);
-            memo = memo-keep (memo-map (right-grown (b .makes .step .store .lower) (k .makes .step .grown)) (b .memo)) right (k .keeps);
+            memo = memo-keep (memo-grown (b .makes .step .store .lower) (k .makes .step .grown) (b .memo)) right (k .keeps);
             long = k .keeps .long ∙ b .long ∙ a .long;
           }
 

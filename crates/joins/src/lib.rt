@@ -2,7 +2,8 @@
 use store::Built;
 use store::Known;
 ghost use mathlib.Core.Path.{_≡_};
-ghost use Prim.Native.Nat.{_+_, _<_, _≤_, min, max};
+ghost use Prim.Native.Nat.{_+_, _/_, _<_, _≤_, min, max};
+ghost use lib.ListN.{length};
 ghost use Rattle.paper.specs.Diagrams.{mkD};
 ghost use Rattle.algebra.specs.Operations.{joinD};
 ghost use Rattle.tables.specs.Table.{den};
@@ -119,6 +120,13 @@ fn finish(
     }
 }
 
+// The answer where the table is full: it has as many nodes as it has room for.
+fn full(nodes: &[u32]) -> Built
+    ensures { λ r. ⌜ r ≡ Built.Short (length (now (nodes .entry)) / 3) ⌝ }
+{
+    Built::Short(nodes.len() / 3)
+}
+
 // Two nodes whose answer is not known, and its place in the memo. Asking comes before each call: half of all questions need none.
 fn join_nodes(
     nodes: &mut [u32],
@@ -144,7 +152,7 @@ fn join_nodes(
             Known::Unknown(at0) => {
                 let b = join_nodes(nodes, heads, next, memo, count, z, p.f0, p.g0, at0);
                 let Built::Done(r0, c0) = b else {
-                    return b;
+                    return full(nodes);
                 };
                 finish(nodes, heads, next, memo, c0, z, f, g, at, p.e, r1, r0)
             }
@@ -152,14 +160,14 @@ fn join_nodes(
         Known::Unknown(at1) => {
             let a = join_nodes(nodes, heads, next, memo, count, z, p.f1, p.g1, at1);
             let Built::Done(r1, c1) = a else {
-                return a;
+                return full(nodes);
             };
             match ask(memo, z, p.f0, p.g0) {
                 Known::Node(r0) => finish(nodes, heads, next, memo, c1, z, f, g, at, p.e, r1, r0),
                 Known::Unknown(at0) => {
                     let b = join_nodes(nodes, heads, next, memo, c1, z, p.f0, p.g0, at0);
                     let Built::Done(r0, c0) = b else {
-                        return b;
+                        return full(nodes);
                     };
                     finish(nodes, heads, next, memo, c0, z, f, g, at, p.e, r1, r0)
                 }

@@ -30,7 +30,7 @@ memo-map {M = M} u m = record { each = λ j n. u (getD M (4 * j) 0) (getD M (4 *
 
 -- ---- places
 
-pub place-none : {M : List ℕ} → length M / 4 ≡ 0 → Place M 0
+pub place-none : {M : List ℕ} → length M < 4 → Place M 0
 place-none h = record { slot = 0; is = refl; fits = omega arith }
 
 pub place-at : {M : List ℕ} {k : ℕ} → k < length M / 4 → Place M (4 * k)
