@@ -1,12 +1,10 @@
+-- `reading::lines` meets its contract.
+-- Assumes nothing.
 use borrow.Author.Needs.{needs}
 use lib.ListN.{length}
-use Prim.Native.Nat.{_-_, _≤_, _<_}
-use mathlib.Core.Path.{_≡_}
+use Prim.Native.Nat.{_-_}
 use Rattle.reading.proofs.lines.Statement.{statement}
 use Rattle.reading.proofs.lines.Tie as tie
-use Rattle.reading.proofs.lines.Reads as reads
-use Rattle.reading.proofs.lines.Lts as lts
-use Rattle.reading.proofs.line.Reads as line-reads
 
 abbrev Inv-loop : tie.InvT-loop
 Inv-loop text at₀ at = Unit {0}
@@ -14,23 +12,18 @@ Inv-loop text at₀ at = Unit {0}
 abbrev μ-loop : tie.MeasureT-loop
 μ-loop text at₀ at = length text - at
 
--- src/main.rt:101:5
 loop-holds : tie.Need-loop-holds Inv-loop μ-loop
 loop-holds c = tt
 
--- src/main.rt:102:9
 line-requires : tie.Need-line-requires Inv-loop μ-loop
 line-requires c κs = search needs
 
--- src/main.rt:101:5
 loop-less : tie.Need-loop-less Inv-loop μ-loop
 loop-less c = search needs
 
--- src/main.rt:101:5
 loop-again : tie.Need-loop-again Inv-loop μ-loop
 loop-again c = tt
 
--- src/main.rt:99:1
 returns : tie.Need-returns Inv-loop μ-loop
 returns c = search needs
 

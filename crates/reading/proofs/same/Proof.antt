@@ -1,11 +1,10 @@
+-- `reading::same` meets its contract.
+-- Assumes nothing.
 use borrow.Author.Needs.{needs}
 use lib.ListN.{length}
-use Prim.Native.Nat.{_-_, _≤_, _<_}
-use mathlib.Core.Path.{_≡_}
+use Prim.Native.Nat.{_-_, _≤_}
 use Rattle.reading.proofs.same.Statement.{statement}
 use Rattle.reading.proofs.same.Tie as tie
-use Rattle.reading.proofs.same.Reads as reads
-use Rattle.reading.proofs.same.Lts as lts
 
 abbrev Inv-loop : tie.InvT-loop
 Inv-loop a b n i₀ i = (i ≤ n) × (n ≤ length a) × (n ≤ length b)
@@ -13,43 +12,33 @@ Inv-loop a b n i₀ i = (i ≤ n) × (n ≤ length a) × (n ≤ length b)
 abbrev μ-loop : tie.MeasureT-loop
 μ-loop a b n i₀ i = n - i
 
--- src/main.rt:24:9
 returns : tie.Need-returns Inv-loop μ-loop
 returns c = search needs
 
--- src/main.rt:27:9
 returns-2 : tie.Need-returns-2 Inv-loop μ-loop
 returns-2 c = search needs
 
--- src/main.rt:29:5
 loop-holds : tie.Need-loop-holds Inv-loop μ-loop
 loop-holds c = search needs
 
--- src/main.rt:30:12
 shared-slice-read-if3 : tie.Need-shared-slice-read-if3 Inv-loop μ-loop
 shared-slice-read-if3 c = search needs
 
--- src/main.rt:30:20
 shared-slice-read-if3-2 : tie.Need-shared-slice-read-if3-2 Inv-loop μ-loop
 shared-slice-read-if3-2 c = search needs
 
--- src/main.rt:31:13
 returns-3 : tie.Need-returns-3 Inv-loop μ-loop
 returns-3 c = search needs
 
--- src/main.rt:29:9
 add-i : tie.Need-add-i Inv-loop μ-loop
 add-i c = search needs
 
--- src/main.rt:29:5
 loop-less : tie.Need-loop-less Inv-loop μ-loop
 loop-less c = search needs
 
--- src/main.rt:29:5
 loop-again : tie.Need-loop-again Inv-loop μ-loop
 loop-again c = search needs
 
--- src/main.rt:22:1
 returns-4 : tie.Need-returns-4 Inv-loop μ-loop
 returns-4 c = search needs
 

@@ -1,109 +1,80 @@
+-- `reading::changes::in_room` meets its contract.
+-- Assumes nothing.
 use lib.ListN.{length-take, length-replicate}
 use native.Mathlib.Omega.{arith}
 use borrow.Author.Needs.{needs}
 use Rattle.reading.proofs.changes.in_room.Statement.{statement}
 use Rattle.reading.proofs.changes.in_room.Tie as tie
-use Rattle.reading.proofs.changes.in_room.Reads as reads
-use Rattle.reading.proofs.changes.in_room.Lts as lts
-use Rattle.io.proofs.print_decimal.Reads as print-decimal-reads
-use Rattle.io.proofs.write_all.Reads as write-all-reads
-use Rattle.reading.proofs.changes.byte.Reads as byte-reads
-use Rattle.reading.proofs.say.Reads as say-reads
-use Rattle.records.proofs.write.Reads as write-reads
 
--- src/changes.rt:72:31
 array-borrow-prefix-room : tie.Need-array-borrow-prefix-room
 array-borrow-prefix-room c = search needs
 
--- src/changes.rt:72:31
 slice-aggregate-write : tie.Need-slice-aggregate-write
 slice-aggregate-write c = simp (length-take, length-replicate) (omega arith)
 
--- src/changes.rt:72:9
 write-requires : tie.Need-write-requires
 write-requires c κs = search needs
 
--- src/changes.rt:74:22
 slice-aggregate-write-all : tie.Need-slice-aggregate-write-all
 slice-aggregate-write-all c = search needs
 
--- src/changes.rt:74:5
 write-all-requires : tie.Need-write-all-requires
 write-all-requires c κs = search needs
 
--- src/changes.rt:75:5
 print-decimal-requires : tie.Need-print-decimal-requires
 print-decimal-requires c κs = search needs
 
--- src/changes.rt:76:22
 slice-aggregate-write-all-2 : tie.Need-slice-aggregate-write-all-2
 slice-aggregate-write-all-2 c = search needs
 
--- src/changes.rt:76:5
 write-all-requires-2 : tie.Need-write-all-requires-2
 write-all-requires-2 c κs = search needs
 
--- src/changes.rt:77:5
 say-requires : tie.Need-say-requires
 say-requires c κs = search needs
 
--- src/changes.rt:78:22
 slice-aggregate-write-all-3 : tie.Need-slice-aggregate-write-all-3
 slice-aggregate-write-all-3 c = search needs
 
--- src/changes.rt:78:5
 write-all-requires-3 : tie.Need-write-all-requires-3
 write-all-requires-3 c κs = search needs
 
--- src/changes.rt:79:10
 array-read-byte : tie.Need-array-read-byte
 array-read-byte c = search needs
 
--- src/changes.rt:79:5
 byte-requires : tie.Need-byte-requires
 byte-requires c κs = search needs
 
--- src/changes.rt:80:22
 slice-aggregate-write-all-4 : tie.Need-slice-aggregate-write-all-4
 slice-aggregate-write-all-4 c = search needs
 
--- src/changes.rt:80:5
 write-all-requires-4 : tie.Need-write-all-requires-4
 write-all-requires-4 c κs = search needs
 
--- src/changes.rt:81:10
 array-read-byte-2 : tie.Need-array-read-byte-2
 array-read-byte-2 c = search needs
 
--- src/changes.rt:81:5
 byte-requires-2 : tie.Need-byte-requires-2
 byte-requires-2 c κs = search needs
 
--- src/changes.rt:82:22
 slice-aggregate-write-all-5 : tie.Need-slice-aggregate-write-all-5
 slice-aggregate-write-all-5 c = search needs
 
--- src/changes.rt:82:5
 write-all-requires-5 : tie.Need-write-all-requires-5
 write-all-requires-5 c κs = search needs
 
--- src/changes.rt:83:10
 array-read-byte-3 : tie.Need-array-read-byte-3
 array-read-byte-3 c = search needs
 
--- src/changes.rt:83:5
 byte-requires-3 : tie.Need-byte-requires-3
 byte-requires-3 c κs = search needs
 
--- src/changes.rt:84:22
 slice-aggregate-write-all-6 : tie.Need-slice-aggregate-write-all-6
 slice-aggregate-write-all-6 c = search needs
 
--- src/changes.rt:84:5
 write-all-requires-6 : tie.Need-write-all-requires-6
 write-all-requires-6 c κs = search needs
 
--- src/changes.rt:68:1
 returns : tie.Need-returns
 returns c = search needs
 

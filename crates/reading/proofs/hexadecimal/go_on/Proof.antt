@@ -1,12 +1,12 @@
+-- `reading::hexadecimal::go_on` meets its contract.
+-- Assumes nothing.
 use borrow.Author.Needs.{needs}
 use lib.ListN.{length, length-set}
 use native.Mathlib.Omega.{arith}
-use Prim.Native.Nat.{_-_, _≤_, _<_}
+use Prim.Native.Nat.{_≤_}
 use mathlib.Core.Path.{_≡_}
 use Rattle.reading.proofs.hexadecimal.go_on.Statement.{statement}
 use Rattle.reading.proofs.hexadecimal.go_on.Tie as tie
-use Rattle.reading.proofs.hexadecimal.go_on.Reads as reads
-use Rattle.reading.proofs.hexadecimal.go_on.Lts as lts
 
 abbrev Inv-loop : tie.InvT-loop
 Inv-loop bytes₀ n size more end₀ left₀ bytes end left = (n ≤ end) × (end ≤ length bytes) × (length bytes ≡ length bytes₀)
@@ -14,51 +14,39 @@ Inv-loop bytes₀ n size more end₀ left₀ bytes end left = (n ≤ end) × (en
 abbrev μ-loop : tie.MeasureT-loop
 μ-loop bytes₀ n size more end₀ left₀ bytes end left = left
 
--- src/hexadecimal.rt:65:5
 loop-holds : tie.Need-loop-holds Inv-loop μ-loop
 loop-holds c = search needs
 
--- src/hexadecimal.rt:67:13
 same-length : tie.Need-same-length Inv-loop μ-loop
 same-length c = search needs
 
--- src/hexadecimal.rt:67:13
 returns : tie.Need-returns Inv-loop μ-loop
 returns c = search needs
 
--- src/hexadecimal.rt:69:28
 sub-bytes : tie.Need-sub-bytes Inv-loop μ-loop
 sub-bytes c = search needs
 
--- src/hexadecimal.rt:69:22
 slice-read-bytes : tie.Need-slice-read-bytes Inv-loop μ-loop
 slice-read-bytes c = search needs
 
--- src/hexadecimal.rt:69:9
 slice-write-bytes : tie.Need-slice-write-bytes Inv-loop μ-loop
 slice-write-bytes c = search needs
 
--- src/hexadecimal.rt:70:9
 add-end : tie.Need-add-end Inv-loop μ-loop
 add-end c = search needs
 
--- src/hexadecimal.rt:71:9
 sub-left : tie.Need-sub-left Inv-loop μ-loop
 sub-left c = search needs
 
--- src/hexadecimal.rt:65:5
 loop-less : tie.Need-loop-less Inv-loop μ-loop
 loop-less c = search needs
 
--- src/hexadecimal.rt:65:5
 loop-again : tie.Need-loop-again Inv-loop μ-loop
 loop-again c = (omega arith, simp length-set (omega arith), simp length-set (omega arith))
 
--- src/hexadecimal.rt:59:1
 same-length-2 : tie.Need-same-length-2 Inv-loop μ-loop
 same-length-2 c = search needs
 
--- src/hexadecimal.rt:59:1
 returns-2 : tie.Need-returns-2 Inv-loop μ-loop
 returns-2 c = search needs
 

@@ -1,12 +1,10 @@
+-- `reading::hexadecimal::times` meets its contract.
+-- Assumes nothing.
 use borrow.Author.Needs.{needs}
 use lib.ListN.{length}
-use Prim.Native.Nat.{_-_, _≤_, _<_}
-use mathlib.Core.Path.{_≡_}
+use Prim.Native.Nat.{_-_, _≤_}
 use Rattle.reading.proofs.hexadecimal.times.Statement.{statement}
 use Rattle.reading.proofs.hexadecimal.times.Tie as tie
-use Rattle.reading.proofs.hexadecimal.times.Reads as reads
-use Rattle.reading.proofs.hexadecimal.times.Lts as lts
-use Rattle.reading.proofs.hexadecimal.digit.Reads as digit-reads
 
 abbrev Inv-loop : tie.InvT-loop
 Inv-loop line from at₀ value₀ at value = (from ≤ at) × (at ≤ length line) × (value ≤ 99999)
@@ -14,51 +12,39 @@ Inv-loop line from at₀ value₀ at value = (from ≤ at) × (at ≤ length lin
 abbrev μ-loop : tie.MeasureT-loop
 μ-loop line from at₀ value₀ at value = length line - at
 
--- src/hexadecimal.rt:44:5
 loop-holds : tie.Need-loop-holds Inv-loop μ-loop
 loop-holds c = search needs
 
--- src/hexadecimal.rt:45:23
 shared-slice-read-digit : tie.Need-shared-slice-read-digit Inv-loop μ-loop
 shared-slice-read-digit c = search needs
 
--- src/hexadecimal.rt:45:13
 digit-requires : tie.Need-digit-requires Inv-loop μ-loop
 digit-requires c κs = search needs
 
--- src/hexadecimal.rt:47:13
 returns : tie.Need-returns Inv-loop μ-loop
 returns c = search needs
 
--- src/hexadecimal.rt:50:13
 returns-2 : tie.Need-returns-2 Inv-loop μ-loop
 returns-2 c = search needs
 
--- src/hexadecimal.rt:52:17
 mul-value : tie.Need-mul-value Inv-loop μ-loop
 mul-value c = search needs
 
--- src/hexadecimal.rt:52:31
 cast-value : tie.Need-cast-value Inv-loop μ-loop
 cast-value c = search needs
 
--- src/hexadecimal.rt:52:17
 add-value : tie.Need-add-value Inv-loop μ-loop
 add-value c = search needs
 
--- src/hexadecimal.rt:53:9
 add-at : tie.Need-add-at Inv-loop μ-loop
 add-at c = search needs
 
--- src/hexadecimal.rt:44:5
 loop-less : tie.Need-loop-less Inv-loop μ-loop
 loop-less c = search needs
 
--- src/hexadecimal.rt:44:5
 loop-again : tie.Need-loop-again Inv-loop μ-loop
 loop-again c = search needs
 
--- src/hexadecimal.rt:38:1
 returns-3 : tie.Need-returns-3 Inv-loop μ-loop
 returns-3 c = search needs
 

@@ -1,98 +1,74 @@
+-- `reading::hexadecimal::token` meets its contract.
+-- Assumes nothing.
 use lib.ListN.{length-set}
 use native.Mathlib.Omega.{arith}
 use borrow.Author.Needs.{needs}
 use Rattle.reading.proofs.hexadecimal.token.Statement.{statement}
 use Rattle.reading.proofs.hexadecimal.token.Tie as tie
-use Rattle.reading.proofs.hexadecimal.token.Reads as reads
-use Rattle.reading.proofs.hexadecimal.token.Lts as lts
-use Rattle.reading.proofs.hexadecimal.digit.Reads as digit-reads
-use Rattle.reading.proofs.hexadecimal.repeated.Reads as repeated-reads
 
--- src/hexadecimal.rt:109:8
 shared-slice-read-if1 : tie.Need-shared-slice-read-if1
 shared-slice-read-if1 c = search needs
 
--- src/hexadecimal.rt:111:17
 add-t11 : tie.Need-add-t11
 add-t11 c = search needs
 
--- src/hexadecimal.rt:110:9
 returns : tie.Need-returns
 returns c = search needs
 
--- src/hexadecimal.rt:116:8
 shared-slice-read-if2 : tie.Need-shared-slice-read-if2
 shared-slice-read-if2 c = search needs
 
--- src/hexadecimal.rt:117:9
 repeated-requires : tie.Need-repeated-requires
 repeated-requires c κs = search needs
 
--- src/hexadecimal.rt:117:9
 same-length : tie.Need-same-length
 same-length c = search needs
 
--- src/hexadecimal.rt:117:9
 returns-2 : tie.Need-returns-2
 returns-2 c = search needs
 
--- src/hexadecimal.rt:119:8
 add-if3 : tie.Need-add-if3
 add-if3 c = search needs
 
--- src/hexadecimal.rt:120:26
 shared-slice-read-digit : tie.Need-shared-slice-read-digit
 shared-slice-read-digit c = search needs
 
--- src/hexadecimal.rt:120:13
 digit-requires : tie.Need-digit-requires
 digit-requires c κs = search needs
 
--- src/hexadecimal.rt:121:30
 add-digit : tie.Need-add-digit
 add-digit c = search needs
 
--- src/hexadecimal.rt:121:25
 shared-slice-read-digit-2 : tie.Need-shared-slice-read-digit-2
 shared-slice-read-digit-2 c = search needs
 
--- src/hexadecimal.rt:121:13
 digit-requires-2 : tie.Need-digit-requires-2
 digit-requires-2 c κs = search needs
 
--- src/hexadecimal.rt:125:32
 mul-bytes : tie.Need-mul-bytes
 mul-bytes c = search needs
 
--- src/hexadecimal.rt:125:32
 add-bytes : tie.Need-add-bytes
 add-bytes c = search needs
 
--- src/hexadecimal.rt:125:21
 slice-write-bytes : tie.Need-slice-write-bytes
 slice-write-bytes c = search needs
 
--- src/hexadecimal.rt:127:29
 add-t28 : tie.Need-add-t28
 add-t28 c = search needs
 
--- src/hexadecimal.rt:128:32
 add-t29 : tie.Need-add-t29
 add-t29 c = search needs
 
--- src/hexadecimal.rt:126:21
 same-length-2 : tie.Need-same-length-2
 same-length-2 c = search needs
 
--- src/hexadecimal.rt:126:21
 returns-3 : tie.Need-returns-3
 returns-3 c = (record { on = omega arith }, record { group = omega arith; room = simp length-set (omega arith) })
 
--- src/hexadecimal.rt:136:13
 add-t15 : tie.Need-add-t15
 add-t15 c = search needs
 
--- src/hexadecimal.rt:103:1
 returns-4 : tie.Need-returns-4
 returns-4 c = search needs
 
