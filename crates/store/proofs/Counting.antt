@@ -15,8 +15,11 @@ use Rattle.algebra.proofs.Plain.{Good, count-law}
 use Rattle.tables.specs.Table.{den}
 use Rattle.tables.proofs.Once.{dens, dens-length, in-dens, dens-in, dens-once}
 use Rattle.store.specs.Store.{Store}
-use Rattle.store.specs.Building.{PartOf, Found, Lacks, Only}
+use Rattle.store.specs.Building.{Part, PartOf, Found, Lacks, Only}
 use Rattle.store.proofs.Denotes.{found-whole}
+
+pub part-of : {ds : List Diagram} {D : Diagram} → In D ds → (E : Diagram) → Part D E → PartOf ds E
+part-of {D = D} m E p = record { whole = D; member = m; part = p }
 
 pub part-in : {ds : List Diagram} {E : Diagram} → PartOf ds E → In E (keep isNode (flat subs ds))
 part-in {ds} {E} p = in-keep isNode E (flat subs ds) (in-flat subs E (p .whole) ds (p .member) (p .part .inside)) (p .part .node)

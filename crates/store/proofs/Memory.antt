@@ -30,11 +30,15 @@ memo-map {M = M} u m = record { each = λ j n. u (getD M (4 * j) 0) (getD M (4 *
 
 -- ---- places
 
-pub place-none : {M : List ℕ} → length M / 4 ≡ 0 → Place M 0
+pub place-none : {M : List ℕ} → length M < 4 → Place M 0
 place-none h = record { slot = 0; is = refl; fits = omega arith }
 
 pub place-at : {M : List ℕ} {k : ℕ} → k < length M / 4 → Place M (4 * k)
 place-at {k = k} h = record { slot = k; is = refl; fits = omega arith }
+
+-- a place stays one
+pub place-kept : {M M′ : List ℕ} {at : ℕ} → length M′ ≡ length M → Place M at → Place M′ at
+place-kept q p = record { slot = p .slot; is = p .is; fits = let z = p .fits in omega arith }
 
 -- what stands at a place where the operation was found
 pub there-hit : {M : List ℕ} {at op f g : ℕ} → Place M at → There M at op f g → Hit M op f g (getD M (at + 3) 0)
@@ -44,7 +48,7 @@ there-hit {M} {at} {op} {f} {g} p t = subst (λ a. There M a op f g → Hit M op
 -- ---- four numbers are written
 
 pub keeps-none : {M : List ℕ} {op f g r : ℕ} → Keeps M op f g r M
-keeps-none = record { each = λ j. inl (record { is-op = refl; is-f = refl; is-g = refl; is-r = refl }) }
+keeps-none = record { long = refl; each = λ j. inl (record { is-op = refl; is-f = refl; is-g = refl; is-r = refl }) }
 
 module _ (M : List ℕ) (k op f g r : ℕ) (fits : 4 * k + 4 ≤ length M) where
   abbrev one : List ℕ
@@ -80,7 +84,7 @@ module _ (M : List ℕ) (k op f g r : ℕ) (fits : 4 * k + 4 ≤ length M) where
   }
 
   keeps-slot : Keeps M op f g r four
-  keeps-slot = record { each = λ j. go j (ℕ-discrete j k) }
+  keeps-slot = record { long = simp length-set; each = λ j. go j (ℕ-discrete j k) }
     where
       go : (j : ℕ) → Dec (j ≡ k) → Quad four j (getD M (4 * j) 0) (getD M (4 * j + 1) 0) (getD M (4 * j + 2) 0) (getD M (4 * j + 3) 0) ⊎ Quad four j op f g r
       go j (yes q) = inr (subst (λ i. Quad four i op f g r) (sym q) here)

@@ -39,6 +39,7 @@ pub record There (M : List ℕ) (at op f g : ℕ) : Type 0 where
 
 -- each quadruple of M′ is M's, or the new one
 pub record Keeps (M : List ℕ) (op f g r : ℕ) (M′ : List ℕ) : Type 0 where
+  pub long : length M′ ≡ length M
   pub each : (j : ℕ) → Quad M′ j (getD M (4 * j) 0) (getD M (4 * j + 1) 0) (getD M (4 * j + 2) 0) (getD M (4 * j + 3) 0) ⊎ Quad M′ j op f g r
 
 -- what asking the memo answers: the result, or a place for it

@@ -3,7 +3,7 @@
 -- Assumes nothing.
 use mathlib.Core.Path.{_≡_}
 use mathlib.Core.List.{List}
-use Prim.Native.Nat.{ℕ, _+_, _-_, _*_, _/_, _%_, _<_, _≤_, min}
+use Prim.Native.Nat.{ℕ, _+_, _-_, _*_, _/_, _%_, _<_, _≤_}
 use lib.ListN.{getD, length}
 use Rattle.paper.specs.Limits.{mostNumbers}
 use Rattle.tables.specs.Table.{eventAt, failedAt, soundAt}
@@ -12,7 +12,7 @@ use Rattle.tables.specs.Stored.{Lower, Unique, ZeroBehind, Kept}
 -- the slot, of so many, at which the search for a triple begins: only the proof of the function that computes it, and the law
 -- that it is below the number of slots, look inside
 unfoldable pub firstSlot : ℕ → ℕ → ℕ → ℕ → ℕ
-firstSlot e f s slots = (e * 7919 + f * 12582917 + s * 4256249) % 4294967296 * 2654435769 % 4294967296 * min slots 4294967295 / 4294967296
+firstSlot e f s slots = (e * 7919 + f * 12582917 + s * 4256249) % 4294967296 * 2654435769 % 4294967296 * (slots % 4294967296) / 4294967296
 
 -- what the function that chooses the first slot answers
 pub record First (e f s slots r : ℕ) : Type 0 where

@@ -2,13 +2,13 @@
 // `heads` and `next` are chains of falling node numbers, one for each first slot.
 ghost use mathlib.Core.Path.{_≡_};
 ghost use mathlib.Core.Bool.{true, false};
-ghost use Prim.Native.Nat.{_+_, _*_, _<_, _≤_, min};
+ghost use Prim.Native.Nat.{_+_, _*_, _<_, _≤_};
 ghost use lib.ListN.{length, replicate};
 ghost use Rattle.paper.specs.Diagrams.{node, mkD};
 ghost use Rattle.algebra.specs.Families.{mkZ};
 ghost use Rattle.tables.specs.Table.{den};
 ghost use Rattle.store.specs.Store.{First, Triple, Store, Put, Sought};
-ghost use Rattle.store.specs.Building.{Is, Builds};
+ghost use Rattle.store.specs.Building.{BuildsOne};
 ghost use Rattle.store.specs.Memo.{There, Place, Keeps, Recalls};
 
 // A node and the count of nodes after it; or the table is full. The count grew exactly if the node is new.
@@ -23,17 +23,8 @@ pub enum Known {
     Unknown(usize),
 }
 
-// The number of slots that are used of so many: a product with it fits 64 bits.
-fn usable(slots: usize) -> u64
-    ensures { λ r. ⌜ r ≡ min slots 4294967295 ⌝ }
-{
-    if slots < 4294967295 {
-        return slots as u64;
-    }
-    4294967295
-}
-
-// Where the search for a triple begins.
+// Where the search for a triple begins: its three numbers mixed to 32 bits, and those scaled to the slots.
+// However many slots there are, the product fits 64 bits.
 pub fn first_slot(e: u32, failed: u32, sound: u32, slots: usize) -> usize
     requires { ⌜ 1 ≤ slots ⌝ }
     ensures { λ r. ⌜ First e failed sound slots r ⌝ }
@@ -43,7 +34,8 @@ pub fn first_slot(e: u32, failed: u32, sound: u32, slots: usize) -> usize
     let c = sound as u64;
     let x = (a * 7919 + b * 12582917 + c * 4256249) % 4294967296;
     let y = x * 2654435769 % 4294967296;
-    (y * usable(slots) / 4294967296) as usize
+    let few = slots as u64 % 4294967296;
+    (y * few / 4294967296) as usize
 }
 
 // Whether slot k holds the triple.
@@ -115,7 +107,7 @@ pub fn find_or_add(
     requires { ⌜ Store (now nodes) (now heads) (now next) count ⌝ }
     requires { ⌜ failed < count + 2 ⌝ }
     requires { ⌜ sound < count + 2 ⌝ }
-    ensures { λ r. ⌜ Builds (Is (node e (den (now (nodes .entry)) failed) (den (now (nodes .entry)) sound))) (now (nodes .entry)) count (node e (den (now (nodes .entry)) failed) (den (now (nodes .entry)) sound)) (now (nodes .exit)) (now (heads .exit)) (now (next .exit)) r ⌝ }
+    ensures { λ r. ⌜ BuildsOne (now (nodes .entry)) count (node e (den (now (nodes .entry)) failed) (den (now (nodes .entry)) sound)) (now (nodes .exit)) (now (heads .exit)) (now (next .exit)) r ⌝ }
 {
     let h = first_slot(e, failed, sound, heads.len());
     let r = find(nodes, heads, next, count, h, e, failed, sound);
@@ -145,7 +137,7 @@ pub fn make(
     requires { ⌜ Store (now nodes) (now heads) (now next) count ⌝ }
     requires { ⌜ failed < count + 2 ⌝ }
     requires { ⌜ sound < count + 2 ⌝ }
-    ensures { λ r. ⌜ Builds (Is (mkD e (den (now (nodes .entry)) failed) (den (now (nodes .entry)) sound))) (now (nodes .entry)) count (mkD e (den (now (nodes .entry)) failed) (den (now (nodes .entry)) sound)) (now (nodes .exit)) (now (heads .exit)) (now (next .exit)) r ⌝ }
+    ensures { λ r. ⌜ BuildsOne (now (nodes .entry)) count (mkD e (den (now (nodes .entry)) failed) (den (now (nodes .entry)) sound)) (now (nodes .exit)) (now (heads .exit)) (now (next .exit)) r ⌝ }
 {
     if failed == sound {
         return Built::Done(failed, count);
@@ -166,7 +158,7 @@ pub fn make_z(
     requires { ⌜ Store (now nodes) (now heads) (now next) count ⌝ }
     requires { ⌜ failed < count + 2 ⌝ }
     requires { ⌜ sound < count + 2 ⌝ }
-    ensures { λ r. ⌜ Builds (Is (mkZ e (den (now (nodes .entry)) failed) (den (now (nodes .entry)) sound))) (now (nodes .entry)) count (mkZ e (den (now (nodes .entry)) failed) (den (now (nodes .entry)) sound)) (now (nodes .exit)) (now (heads .exit)) (now (next .exit)) r ⌝ }
+    ensures { λ r. ⌜ BuildsOne (now (nodes .entry)) count (mkZ e (den (now (nodes .entry)) failed) (den (now (nodes .entry)) sound)) (now (nodes .exit)) (now (heads .exit)) (now (next .exit)) r ⌝ }
 {
     if failed == 0 {
         return Built::Done(sound, count);
@@ -178,11 +170,10 @@ pub fn make_z(
 fn place(memo: &[u32], op: u32, f: u32, g: u32) -> usize
     ensures { λ r. ⌜ Place (now (memo .entry)) r ⌝ }
 {
-    let slots = memo.len() / 4;
-    if slots == 0 {
+    if memo.len() < 4 {
         return 0;
     }
-    4 * first_slot(op, f, g, slots)
+    4 * first_slot(op, f, g, memo.len() / 4)
 }
 
 // Whether the memo has the operation at that place.

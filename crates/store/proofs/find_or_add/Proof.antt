@@ -20,7 +20,7 @@ same-length-3 : tie.Need-same-length-3
 same-length-3 c = search needs
 
 returns : tie.Need-returns
-returns c = made-old (c .before .before .before .before .before .before .before .before .before .pre .0) (c .if1 .taken) (c .before .find .ensures)
+returns c = made-old (c .before .before .before .before .before .before .before .before .before .pre .0) (let z = c .if1 .taken in omega arith) (c .before .find .ensures)
 
 mul-if2 : tie.Need-mul-if2
 mul-if2 c = search needs
@@ -40,7 +40,7 @@ same-length-6 c = search needs
 returns-2 : tie.Need-returns-2
 returns-2 c =
     let at-start = c .before .before .before .before .before .before .before .before .before .before in
-    made-short (at-start .pre .0) (at-start .pre .1 .0) (at-start .pre .1 .1) (let z = c .before .if1 .left in omega arith) (c .before .before .find .ensures) (c .if2 .taken)
+    made-short (at-start .pre .0) (at-start .pre .1 .0) (at-start .pre .1 .1) (let z = c .before .if1 .left in omega arith) (c .before .before .find .ensures) (let z = c .if2 .taken in omega arith)
 
 put-requires : tie.Need-put-requires
 put-requires c κs = search needs

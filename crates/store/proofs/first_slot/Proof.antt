@@ -25,20 +25,14 @@ add-x-2 c = search needs
 mul-y : tie.Need-mul-y
 mul-y c = search needs
 
-usable-requires : tie.Need-usable-requires
-usable-requires c κs = search needs
-
 mul-result : tie.Need-mul-result
-mul-result c = let q = scaled-fits ((c .before .args .e * 7919 + c .before .args .failed * 12582917 + c .before .args .sound * 4256249) % 4294967296 * 2654435769 % 4294967296) (c .usable .result) (omega arith) (omega arith) (omega arith) in search (needs, q)
+mul-result c = let q = scaled-fits ((c .args .e * 7919 + c .args .failed * 12582917 + c .args .sound * 4256249) % 4294967296 * 2654435769 % 4294967296) (c .args .slots % 4294967296) (omega arith) (omega arith) in search (needs, q)
 
 returns : tie.Need-returns
 unfolding firstSlot
 returns c =
-    let a = c .before .args in
-    let q = c .usable .ensures in
-    record { is = rw q refl; below = rw q (first-below (a .e) (a .failed) (a .sound) (a .slots) (c .before .pre)) }
+    let a = c .args in
+    record { is = refl; below = first-below (a .e) (a .failed) (a .sound) (a .slots) (c .pre) }
 
 pub first-slot-spec : {M : Type 1} → statement M
-first-slot-spec =
-    tie.close
-    (tie.spec mul-x mul-x-2 add-x mul-x-3 add-x-2 mul-y usable-requires mul-result returns)
+first-slot-spec = tie.close (tie.spec mul-x mul-x-2 add-x mul-x-3 add-x-2 mul-y mul-result returns)

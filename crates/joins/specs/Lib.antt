@@ -1,0 +1,2 @@
+-- What joining two nodes promises.
+pub mod Joins
