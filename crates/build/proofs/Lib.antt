@@ -11,3 +11,4 @@ pub mod ByKind
 pub mod Sofar
 pub mod Needed
 pub mod Meaning
+pub mod Reading

@@ -1,5 +1,6 @@
 -- What the arrays of a tree in memory keep.
 -- Assumes nothing.
+use mathlib.Core.Path.{_≡_}
 use mathlib.Core.List.{List, map}
 use Prim.Native.Nat.{ℕ, _+_, _≤_, _<_}
 use lib.ListN.{length, getD, take, drop}
@@ -7,6 +8,7 @@ use Rattle.paper.specs.Lists.{sum}
 use Rattle.paper.specs.Limits.{limits}
 use Rattle.paper.specs.Trees.{Gate}
 use Rattle.paper.specs.Flat.{gatesFrom, inputOf, gateOf}
+use Rattle.records.specs.declared.Tree.{Tree}
 
 -- the inputs of gate g start behind those of the gates before
 abbrev pub startOf : List ℕ → ℕ → ℕ
@@ -31,3 +33,12 @@ pub record Own (gates own : List ℕ) : Type 0 where
   pub some : 1 ≤ length own
   pub few : length own ≤ limits .inputs
   pub earlier : (j : ℕ) → j < length own → getD own j 0 < gatesFrom + length gates
+
+-- the arrays of a tree that was read
+pub record Arrays (t : Tree) : Type 0 where
+  pub few-gates : t .«gate_count» ≤ limits .gates
+  pub all-kinds : length (t .kinds) ≡ limits .gates
+  pub all-leasts : length (t .leasts) ≡ limits .gates
+  pub all-sizes : length (t .sizes) ≡ limits .gates
+  pub all-inputs : length (t .inputs) ≡ limits .inAll
+  pub plan : Plan (t .kinds) (t .leasts) (take (t .«gate_count») (t .sizes)) (t .inputs)
