@@ -5,12 +5,12 @@ use mathlib.Core.List.{List, map}
 use Prim.Native.Nat.{ℕ, _≤_}
 use lib.ListN.{length, take}
 use Rattle.paper.specs.Limits.{limits}
-use Rattle.paper.specs.Trees.{events, TreeBelow} 
+use Rattle.paper.specs.Trees.{events, TreeBelow}
 use Rattle.paper.specs.Trees as paper
 use Rattle.paper.specs.Flat.{gatesOf}
 use Rattle.paper.specs.Answers.{NodesFull, CutsFull}
 use Rattle.records.specs.Judge.{Book}
-use Rattle.records.specs.Memory.{memory} 
+use Rattle.records.specs.Memory.{memory}
 use Rattle.records.specs.Trees.{Lawful}
 use Rattle.records.specs.declared.Event.{Event}
 use Rattle.records.specs.declared.Tree.{Tree}

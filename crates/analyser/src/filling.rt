@@ -117,7 +117,18 @@ pub fn fill(
             refused(10, 0)
         }
         Finish::Complete(root, used) => {
-            fill_cuts(nodes, cuts, gates, memo, heads, next, marks, own, root, used)
+            fill_cuts(
+                nodes,
+                cuts,
+                gates,
+                memo,
+                heads,
+                next,
+                marks,
+                own,
+                root,
+                used,
+            )
         }
     }
 }

@@ -1,6 +1,6 @@
 -- What the finished tables come to: from the builders' promises to the analysis' own.
 -- Assumes nothing.
-use mathlib.Core.Path.{_≡_, refl, sym, ap, _∙_, subst}
+use mathlib.Core.Path.{_≡_, refl, sym, ap, ap₂, _∙_, subst}
 use mathlib.Core.Bool.{true, false}
 use mathlib.Core.List.{List, map}
 use Prim.Native.Nat.{ℕ, _+_, _-_, _*_, _/_, _%_, _≤_, _<_, max}
@@ -14,8 +14,9 @@ use Rattle.paper.specs.Answers.{NodesFull, CutsFull, cutNodesOf}
 use Rattle.algebra.proofs.Without.{Fit}
 use Rattle.algebra.proofs.Gates.{Shows}
 use Rattle.tables.specs.Table.{den}
+use Rattle.tables.specs.Lent.{Lent}
 use Rattle.records.specs.Judge.{Book}
-use Rattle.records.specs.Memory.{memory} 
+use Rattle.records.specs.Memory.{memory}
 use Rattle.records.specs.Trees.{Lawful, treeOf}
 use Rattle.records.specs.declared.Event.{Event}
 use Rattle.records.specs.declared.Tree.{Tree}
@@ -43,7 +44,7 @@ module _ {t : paper.Tree} {m : Memory} {root c : ℕ} (g : Ground t m root c) wh
   shows : eval (den (m .nodes) root) ≡ rootFun (t .gates)
   shows = root-number (events t) (t .gates) (g .sound .below) (g .whole) .1
 
-  lent : _
+  lent : Lent false (events t) (m .nodes) c root
   lent = whole-lent (events t) (t .gates) (g .sound .below) (g .whole) (g .sound .some-event) (g .sound .few-events) (g .lengths .node-table .threes)
 
   pub ground-readable : Readable (m .nodes) root
@@ -167,7 +168,7 @@ unfolding treeIn treeOf memory
 read-chances b = ap (map (λ (e : Event). e .chance)) (pad-take (limits .events) _ (b .events))
 
 pub read-tree : (b : Book) → Lawful limits b → treeIn (memory b) ≡ treeOf b
-read-tree b l = let p = read-gates b l in let q = read-chances b in cc
+read-tree b l = ap₂ (λ c g. record { chances = c; gates = g }) (read-chances b) (read-gates b l)
 
 pub read-sound : (b : Book) → Lawful limits b → Sound (treeOf b)
 read-sound b l =
