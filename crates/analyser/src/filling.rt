@@ -62,7 +62,7 @@ fn fill_cuts(
     ensures { λ r. ⌜ FillsCuts (memory (now (nodes .entry)) (now (cuts .entry)) (now (gates .entry)) (now (memo .entry)) (now (heads .entry)) (now (next .entry)) (now (marks .entry)) (now (own .entry))) root count (memory (now (nodes .exit)) (now (cuts .exit)) (now (gates .exit)) (now (memo .exit)) (now (heads .exit)) (now (next .exit)) (now (marks .exit)) (now (own .exit))) r ⌝ }
 {
     match cuts::build_cuts(cuts, heads, next, memo, marks, own, nodes, root as usize) {
-        Built::Short(_) => {
+        Built::Short(full) => {
             wipe(nodes, cuts, gates, memo, heads, next, marks, own);
             refused(11, 0)
         }
@@ -112,7 +112,7 @@ pub fn fill(
         &sizes[..count],
         &inputs,
     ) {
-        Finish::Over(_) => {
+        Finish::Over(gate) => {
             wipe(nodes, cuts, gates, memo, heads, next, marks, own);
             refused(10, 0)
         }

@@ -1,128 +1,124 @@
+-- `analyser::filling::fill` meets its contract: what the builders promise comes to 10, 11, or done. Assumes nothing.
+use mathlib.Core.Path.{refl, sym, _∙_}
+use native.Mathlib.Omega.{arith}
+use Rattle.analyser.proofs.Tables.{read-arrays, read-sizes, read-is-sound, read-lengths, build-areas, whole-in, over-in, nodes-are-full, nodes-do-fit}
 use borrow.Author.Needs.{needs}
 use Rattle.analyser.proofs.filling.fill.Statement.{statement}
 use Rattle.analyser.proofs.filling.fill.Tie as tie
-use Rattle.analyser.proofs.filling.fill.Reads as reads
-use Rattle.analyser.proofs.filling.fill.Lts as lts
-use Rattle.analyser.proofs.filling.fill_cuts.Reads as fill-cuts-reads
-use Rattle.analyser.proofs.filling.wipe.Reads as wipe-reads
-use Rattle.analyser.proofs.refused.Reads as refused-reads
-use Rattle.build.proofs.build.Reads as build-reads
 
--- src/filling.rt:110:9
 slice-aggregate-build : tie.Need-slice-aggregate-build
 slice-aggregate-build c = search needs
 
--- src/filling.rt:111:9
 slice-aggregate-build-2 : tie.Need-slice-aggregate-build-2
 slice-aggregate-build-2 c = search needs
 
--- src/filling.rt:112:9
 array-share-prefix-sizes : tie.Need-array-share-prefix-sizes
-array-share-prefix-sizes c = ?
+array-share-prefix-sizes c =
+    let a = read-arrays (c .before .before .before .before .before .before .before .before .before .before .before .before .before .before .before .before .before .before .before .pre .0) in omega (arith, a .few-gates, a .all-sizes)
 
--- src/filling.rt:112:9
 slice-aggregate-build-3 : tie.Need-slice-aggregate-build-3
-slice-aggregate-build-3 c = ?
+slice-aggregate-build-3 c =
+    read-sizes (c .before .before .before .before .before .before .before .before .before .before .before .before .before .before .before .before .before .before .before .before .pre .0)
 
--- src/filling.rt:113:9
 slice-aggregate-build-4 : tie.Need-slice-aggregate-build-4
-slice-aggregate-build-4 c = ?
+slice-aggregate-build-4 c =
+    sym (read-arrays (c .before .before .before .before .before .before .before .before .before .before .before .before .before .before .before .before .before .before .before .before .before .pre .0) .all-inputs)
 
--- src/filling.rt:104:11
 build-requires : tie.Need-build-requires
-build-requires c κs = ?
+build-requires c κs =
+    (build-areas (c .before .before .before .before .before .before .before .before .before .before .before .before .before .before .before .before .before .before .before .before .before .pre .1), (read-arrays (c .before .before .before .before .before .before .before .before .before .before .before .before .before .before .before .before .before .before .before .before .before .pre .0) .plan, omega (arith, read-sizes (c .before .before .before .before .before .before .before .before .before .before .before .before .before .before .before .before .before .before .before .before .before .pre .0), c .before .before .before .before .before .before .before .before .before .before .before .before .before .before .before .before .before .before .before .before .before .pre .1 .gate-list)))
 
--- src/filling.rt:116:18
-enum-told : tie.Need-enum-told
-enum-told c = search needs
+enum-known-gate : tie.Need-enum-known-gate
+enum-known-gate c = search needs
 
--- src/filling.rt:116:13
 wipe-requires : tie.Need-wipe-requires
 wipe-requires c κs = search needs
 
--- src/filling.rt:117:13
 refused-requires : tie.Need-refused-requires
 refused-requires c κs = search needs
 
--- src/filling.rt:119:26
 enum-known-root : tie.Need-enum-known-root
 enum-known-root c = search needs
 
--- src/filling.rt:120:13
 fill-cuts-requires : tie.Need-fill-cuts-requires
-fill-cuts-requires c κs = ?
+fill-cuts-requires c κs =
+    let k = c .before .before .before .before .before .before .before .before .before .before .before .before .before .before .before .before .before .before .before .before .before .build .kept in
+    record {
+      tree = _;
+      ground = record {
+        sound = read-is-sound (c .before .before .before .before .before .before .before .before .before .before .before .before .before .before .before .before .before .before .before .before .before .before .before .before .before .before .before .before .before .before .before .before .before .before .before .before .before .before .before .before .before .before .before .pre .0);
+        whole = whole-in (c .before .before .before .before .before .before .before .before .before .before .before .before .before .before .before .before .before .before .before .before .before .before .before .before .before .before .before .before .before .before .before .before .before .before .before .before .before .before .before .before .before .before .before .args .tree) (rw (c .before .before .before .before .before .before .before .before .before .root .given .1) at (c .before .before .before .before .before .before .before .before .before .before .before .before .before .before .before .before .before .before .before .before .before .build .ensures));
+        lengths = read-lengths (c .before .before .before .before .before .before .before .before .before .before .before .before .before .before .before .before .before .before .before .before .before .before .before .before .before .before .before .before .before .before .before .before .before .before .before .before .before .before .before .before .before .before .before .pre .0) (record { nodes = k .0; cuts = refl; gates = k .1 .1 .1 .1 .0; memo = k .1 .1 .1 .0; heads = k .1 .0; next = k .1 .1 .0; marks = refl; own = refl }) (c .before .before .before .before .before .before .before .before .before .before .before .before .before .before .before .before .before .before .before .before .before .before .before .before .before .before .before .before .before .before .before .before .before .before .before .before .before .before .before .before .before .before .before .pre .1);
+      };
+    }
 
--- src/filling.rt:84:1
 same-length : tie.Need-same-length
-same-length c = ?
+same-length c =
+    c .before .before .before .before .before .before .before .before .before .before .before .before .before .before .before .before .before .wipe .kept .0 ∙ c .before .before .before .before .before .before .before .before .before .before .before .before .before .before .before .before .before .before .before .before .before .before .before .before .before .before .before .before .before .before .before .before .before .before .before .before .before .before .before .build .kept .0
 
--- src/filling.rt:84:1
 same-length-2 : tie.Need-same-length-2
 same-length-2 c = search needs
 
--- src/filling.rt:84:1
 same-length-3 : tie.Need-same-length-3
 same-length-3 c = search needs
 
--- src/filling.rt:84:1
 same-length-4 : tie.Need-same-length-4
 same-length-4 c = search needs
 
--- src/filling.rt:84:1
 same-length-5 : tie.Need-same-length-5
-same-length-5 c = search needs
+same-length-5 c =
+    c .before .before .before .before .before .before .before .before .before .before .before .before .before .before .before .before .before .wipe .kept .1 .1 .1 .1 .0 ∙ c .before .before .before .before .before .before .before .before .before .before .before .before .before .before .before .before .before .before .before .before .before .before .before .before .before .before .before .before .before .before .before .before .before .before .before .before .before .before .before .build .kept .1 .0
 
--- src/filling.rt:84:1
 same-length-6 : tie.Need-same-length-6
 same-length-6 c = search needs
 
--- src/filling.rt:84:1
 same-length-7 : tie.Need-same-length-7
 same-length-7 c = search needs
 
--- src/filling.rt:84:1
 same-length-8 : tie.Need-same-length-8
 same-length-8 c = search needs
 
--- src/filling.rt:84:1
 returns : tie.Need-returns
-returns c = ?
+returns c =
+    let k = c .before .before .before .before .before .before .before .before .before .before .before .before .before .before .before .before .before .before .before .before .before .before .before .before .before .before .before .before .before .before .before .before .before .before .before .before .before .before .before .build .kept in
+    nodes-are-full (read-is-sound (c .before .before .before .before .before .before .before .before .before .before .before .before .before .before .before .before .before .before .before .before .before .before .before .before .before .before .before .before .before .before .before .before .before .before .before .before .before .before .before .before .before .before .before .before .before .before .before .before .before .before .before .before .before .before .before .before .before .before .before .before .before .pre .0)) (c .before .before .before .before .before .before .before .before .before .before .before .before .before .before .before .before .before .wipe .ensures)
+    (record { nodes = k .0; cuts = refl; gates = k .1 .1 .1 .1 .0; memo = k .1 .1 .1 .0; heads = k .1 .0; next = k .1 .1 .0; marks = refl; own = refl })
+    (over-in (c .before .before .before .before .before .before .before .before .before .before .before .before .before .before .before .before .before .before .before .before .before .before .before .before .before .before .before .before .before .before .before .before .before .before .before .before .before .before .before .before .before .before .before .before .before .before .before .before .before .before .before .before .before .before .before .before .before .before .before .before .before .args .tree) (rw (c .before .before .before .before .before .before .before .before .before .before .before .before .before .before .before .before .before .before .before .before .before .before .before .before .before .before .before .gate .given .1) at (c .before .before .before .before .before .before .before .before .before .before .before .before .before .before .before .before .before .before .before .before .before .before .before .before .before .before .before .before .before .before .before .before .before .before .before .before .before .before .before .build .ensures))) (c .refused .ensures)
 
--- src/filling.rt:84:1
 same-length-9 : tie.Need-same-length-9
-same-length-9 c = ?
+same-length-9 c =
+    c .before .before .before .before .before .before .before .before .before .before .before .before .before .before .before .before .fill-cuts .kept .0 ∙ c .before .before .before .before .before .before .before .before .before .before .before .before .before .before .before .before .before .before .before .before .before .before .before .before .before .before .before .before .before .before .before .before .before .before .before .before .before .before .build .kept .0
 
--- src/filling.rt:84:1
 same-length-10 : tie.Need-same-length-10
 same-length-10 c = search needs
 
--- src/filling.rt:84:1
 same-length-11 : tie.Need-same-length-11
 same-length-11 c = search needs
 
--- src/filling.rt:84:1
 same-length-12 : tie.Need-same-length-12
 same-length-12 c = search needs
 
--- src/filling.rt:84:1
 same-length-13 : tie.Need-same-length-13
-same-length-13 c = ?
+same-length-13 c =
+    c .before .before .before .before .before .before .before .before .before .before .before .before .before .before .before .before .fill-cuts .kept .1 .1 .1 .1 .0 ∙ c .before .before .before .before .before .before .before .before .before .before .before .before .before .before .before .before .before .before .before .before .before .before .before .before .before .before .before .before .before .before .before .before .before .before .before .before .before .before .build .kept .1 .0
 
--- src/filling.rt:84:1
 same-length-14 : tie.Need-same-length-14
 same-length-14 c = search needs
 
--- src/filling.rt:84:1
 same-length-15 : tie.Need-same-length-15
 same-length-15 c = search needs
 
--- src/filling.rt:84:1
 same-length-16 : tie.Need-same-length-16
 same-length-16 c = search needs
 
--- src/filling.rt:84:1
 returns-2 : tie.Need-returns-2
-returns-2 c = ?
+returns-2 c =
+    let k = c .before .before .before .before .before .before .before .before .before .before .before .before .before .before .before .before .before .before .before .before .before .before .before .before .before .before .before .before .before .before .before .before .before .before .before .before .before .before .build .kept in
+    let s = c .before .before .before .before .before .before .before .before .before .before .before .before .before .before .before .before .before .before .before .before .before .before .before .before .before .before .before .before .before .before .before .before .before .before .before .before .before .before .before .before .before .before .before .before .before .before .before .before .before .before .before .before .before .before .before .before .before .before .before .before in
+    let w = whole-in (s .args .tree) (rw (c .before .before .before .before .before .before .before .before .before .before .before .before .before .before .before .before .before .before .before .before .before .before .before .before .before .before .root .given .1) at (c .before .before .before .before .before .before .before .before .before .before .before .before .before .before .before .before .before .before .before .before .before .before .before .before .before .before .before .before .before .before .before .before .before .before .before .before .before .before .build .ensures)) in
+    nodes-do-fit (read-is-sound (s .pre .0))
+    (record { nodes = k .0; cuts = refl; gates = k .1 .1 .1 .1 .0; memo = k .1 .1 .1 .0; heads = k .1 .0; next = k .1 .1 .0; marks = refl; own = refl })
+    w (c .before .before .before .before .before .before .before .before .before .before .before .before .before .before .before .before .fill-cuts .ensures _ (record { sound = read-is-sound (s .pre .0); whole = w; lengths = read-lengths (s .pre .0) (record { nodes = k .0; cuts = refl; gates = k .1 .1 .1 .1 .0; memo = k .1 .1 .1 .0; heads = k .1 .0; next = k .1 .1 .0; marks = refl; own = refl }) (s .pre .1) }))
 
 pub fill-spec : {M : Type 1} → statement M
 fill-spec =
@@ -134,7 +130,7 @@ fill-spec =
     slice-aggregate-build-3
     slice-aggregate-build-4
     build-requires
-    enum-told
+    enum-known-gate
     wipe-requires
     refused-requires
     enum-known-root

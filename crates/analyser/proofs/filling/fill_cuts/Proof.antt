@@ -1,120 +1,105 @@
+-- `analyser::filling::fill_cuts` meets its contract: what the cut builder promises comes to 11, or to done.
+-- Assumes nothing.
+use mathlib.Core.Path.{refl, _∙_}
+use Rattle.analyser.proofs.Tables.{ground-readable, ground-room, cuts-are-full, cuts-are-done}
 use borrow.Author.Needs.{needs}
 use Rattle.analyser.proofs.filling.fill_cuts.Statement.{statement}
 use Rattle.analyser.proofs.filling.fill_cuts.Tie as tie
-use Rattle.analyser.proofs.filling.fill_cuts.Reads as reads
-use Rattle.analyser.proofs.filling.fill_cuts.Lts as lts
-use Rattle.analyser.proofs.filling.settle.Reads as settle-reads
-use Rattle.analyser.proofs.filling.wipe.Reads as wipe-reads
-use Rattle.analyser.proofs.refused.Reads as refused-reads
-use Rattle.cuts.proofs.build_cuts.Reads as build-cuts-reads
 
--- src/filling.rt:64:11
 build-cuts-requires : tie.Need-build-cuts-requires
-build-cuts-requires c κs = ?
+build-cuts-requires c κs =
+    let s = c .before .before .before .before .before .before .before .before .before .before .before .before .before .before .before in (ground-readable (s .pre .ground), ground-room (s .pre .ground))
 
--- src/filling.rt:66:18
-enum-told : tie.Need-enum-told
-enum-told c = search needs
+enum-known-full : tie.Need-enum-known-full
+enum-known-full c = search needs
 
--- src/filling.rt:66:13
 wipe-requires : tie.Need-wipe-requires
 wipe-requires c κs = search needs
 
--- src/filling.rt:67:13
 refused-requires : tie.Need-refused-requires
 refused-requires c κs = search needs
 
--- src/filling.rt:69:21
 enum-known-cut-root : tie.Need-enum-known-cut-root
 enum-known-cut-root c = search needs
 
--- src/filling.rt:70:13
 settle-requires : tie.Need-settle-requires
 settle-requires c κs = search needs
 
--- src/filling.rt:77:27
-cast-t59 : tie.Need-cast-t59
-cast-t59 c = search needs
+cast-t60 : tie.Need-cast-t60
+cast-t60 c = search needs
 
--- src/filling.rt:49:1
 same-length : tie.Need-same-length
 same-length c = search needs
 
--- src/filling.rt:49:1
 same-length-2 : tie.Need-same-length-2
-same-length-2 c = ?
+same-length-2 c =
+    let b = c .before .before .before .before .before .before .before .before .before .before .before .before .before .before .before .before .before .before .before .before .before .before .before .before .before .before .before .before .before .before .before .before .before .before .before .before .before .before .before .before .before .build-cuts in let w = c .before .before .before .before .before .before .before .before .before .before .before .before .before .before .before .before .before .wipe in w .kept .1 .0 ∙ b .kept .0
 
--- src/filling.rt:49:1
 same-length-3 : tie.Need-same-length-3
 same-length-3 c = search needs
 
--- src/filling.rt:49:1
 same-length-4 : tie.Need-same-length-4
 same-length-4 c = search needs
 
--- src/filling.rt:49:1
 same-length-5 : tie.Need-same-length-5
-same-length-5 c = ?
+same-length-5 c =
+    let b = c .before .before .before .before .before .before .before .before .before .before .before .before .before .before .before .before .before .before .before .before .before .before .before .before .before .before .before .before .before .before .before .before .before .before .before .before .before .before .before .before .before .build-cuts in let w = c .before .before .before .before .before .before .before .before .before .before .before .before .before .before .before .before .before .wipe in w .kept .1 .1 .1 .1 .0 ∙ b .kept .1 .0
 
--- src/filling.rt:49:1
 same-length-6 : tie.Need-same-length-6
-same-length-6 c = search needs
+same-length-6 c = c .before .before .before .before .before .before .before .before .before .before .before .before .before .before .before .before .before .wipe .kept .1 .1 .1 .1 .1 .0 ∙ c .before .before .before .before .before .before .before .before .before .before .before .before .before .before .before .before .before .before .before .before .before .before .before .before .before .before .before .before .before .before .before .before .before .before .before .before .before .before .before .before .before .build-cuts .kept .1 .1 .0
 
--- src/filling.rt:49:1
 same-length-7 : tie.Need-same-length-7
 same-length-7 c = search needs
 
--- src/filling.rt:49:1
 same-length-8 : tie.Need-same-length-8
 same-length-8 c = search needs
 
--- src/filling.rt:49:1
 returns : tie.Need-returns
-returns c = ?
+returns c =
+    let k = c .before .before .before .before .before .before .before .before .before .before .before .before .before .before .before .before .before .before .before .before .before .before .before .before .before .before .before .before .before .before .before .before .before .before .before .before .before .before .before .before .before .build-cuts .kept in
+    λ t g. cuts-are-full g (c .before .before .before .before .before .before .before .before .before .before .before .before .before .before .before .before .before .wipe .ensures)
+    (record { nodes = refl; cuts = k .0; gates = refl; memo = k .1 .1 .1 .0; heads = k .1 .0; next = k .1 .1 .0; marks = k .1 .1 .1 .1 .0; own = k .1 .1 .1 .1 .1 .0 })
+    (rw (c .before .before .before .before .before .before .before .before .before .before .before .before .before .before .before .before .before .before .before .before .before .before .before .before .before .before .before .full .given .1) at (c .before .before .before .before .before .before .before .before .before .before .before .before .before .before .before .before .before .before .before .before .before .before .before .before .before .before .before .before .before .before .before .before .before .before .before .before .before .before .before .before .before .build-cuts .ensures)) (c .refused .ensures)
 
--- src/filling.rt:49:1
 same-length-9 : tie.Need-same-length-9
 same-length-9 c = search needs
 
--- src/filling.rt:49:1
 same-length-10 : tie.Need-same-length-10
 same-length-10 c = search needs
 
--- src/filling.rt:49:1
 same-length-11 : tie.Need-same-length-11
 same-length-11 c = search needs
 
--- src/filling.rt:49:1
 same-length-12 : tie.Need-same-length-12
 same-length-12 c = search needs
 
--- src/filling.rt:49:1
 same-length-13 : tie.Need-same-length-13
 same-length-13 c = search needs
 
--- src/filling.rt:49:1
 same-length-14 : tie.Need-same-length-14
 same-length-14 c = search needs
 
--- src/filling.rt:49:1
 same-length-15 : tie.Need-same-length-15
 same-length-15 c = search needs
 
--- src/filling.rt:49:1
 returns-2 : tie.Need-returns-2
-returns-2 c = ?
+returns-2 c =
+    let k = c .before .before .before .before .before .before .before .before .before .before .before .before .before .before .before .before .before .before .before .before .before .before .before .before .before .before .before .before .before .before .before .build-cuts .kept in
+    λ t g. cuts-are-done g (c .before .before .before .before .before .before .before .before .before .before .settle .ensures)
+    (record { nodes = refl; cuts = k .0; gates = refl; memo = k .1 .1 .1 .0; heads = k .1 .0; next = k .1 .1 .0; marks = k .1 .1 .1 .1 .0; own = k .1 .1 .1 .1 .1 .0 })
+    (rw (c .before .before .before .before .before .before .before .before .before .before .before .before .before .before .before .before .before .cut-root .given .1) at (c .before .before .before .before .before .before .before .before .before .before .before .before .before .before .before .before .before .before .before .before .before .before .before .before .before .before .before .before .before .before .before .build-cuts .ensures)) refl refl refl refl refl refl
 
 pub fill-cuts-spec : {M : Type 1} → statement M
 fill-cuts-spec =
     tie.close
     (tie.spec
     build-cuts-requires
-    enum-told
+    enum-known-full
     wipe-requires
     refused-requires
     enum-known-cut-root
     settle-requires
-    cast-t59
+    cast-t60
     same-length
     same-length-2
     same-length-3
