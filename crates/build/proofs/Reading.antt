@@ -13,6 +13,7 @@ use Rattle.paper.specs.Flat.{gatesFrom}
 use Rattle.records.specs.Judge.{Book, start, Outcome, accept, refuse, outcome}
 use Rattle.records.specs.Memory.{pad, memory, inMemory}
 use Rattle.records.specs.Trees.{Lawful}
+use Rattle.records.specs.declared.Reading.{Reading}
 use Rattle.records.proofs.Pad.{pad-take, pad-length}
 use Rattle.records.proofs.InMemory.{pad-at}
 use Rattle.records.proofs.Lawful.{lawful}
@@ -76,3 +77,6 @@ arrays-read bytes = go (outcome limits bytes) refl
     go : (o : Outcome) → outcome limits bytes ≡ o → Arrays (inMemory (outcome limits bytes) .tree)
     go (accept b) e = rw e (arrays-memory b (lawful bytes b e))
     go (refuse a) e = rw e arrays-none
+
+pub arrays-of : (bytes : List ℕ) {r : Reading} → r ≡ inMemory (outcome limits bytes) → Arrays (r .tree)
+arrays-of bytes e = subst (λ r. Arrays (r .tree)) (sym e) (arrays-read bytes)

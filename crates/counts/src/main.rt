@@ -62,18 +62,35 @@ fn say(t: Tree, room: usize) -> usize
 }
 
 // The tree of that file.
-fn show(name: &[u8]) {
+fn tree(name: &[u8]) -> Tree
+    ensures { λ r. ⌜ Arrays r ⌝ }
+{
     let mut bytes = [0u8; 16384];
     let fd = os::open_read(name);
     let n = io::read_full(fd, &mut bytes);
     let r = records::read(&bytes[..n]);
-    let t = r.tree;
+    r.tree
+}
+
+// In the largest table, with just enough room, and with room for one less.
+fn show(name: &[u8]) {
+    let t = tree(name);
     io::write_all(1, name);
     let needed = say(t, NODES);
     say(t, needed);
     if 0 < needed {
         say(t, needed - 1);
     }
+    io::write_all(1, b"\n");
+}
+
+// In tables that are too small.
+fn show_full(name: &[u8], room: usize)
+    requires { ⌜ room ≤ 20000 ⌝ }
+{
+    let t = tree(name);
+    io::write_all(1, name);
+    say(t, room);
     io::write_all(1, b"\n");
 }
 
@@ -93,4 +110,8 @@ fn main() {
     show(b"32_of_64");
     show(b"and_of_63_ors");
     show(b"european1");
+    show_full(b"case1", 4);
+    show_full(b"case1", 2);
+    show_full(b"case1", 0);
+    show_full(b"european1", 4096);
 }
