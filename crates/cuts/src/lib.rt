@@ -241,8 +241,7 @@ pub fn mark(nodes: &[u32], marks: &mut [u32], root: usize)
 
 // ---- from the leaves up to the root
 
-// The cuts of node i, whose branches have their cut numbers in `own`: the event added to the failed branch's cuts without the sound branch,
-// together with the sound branch's cuts.
+// The cuts of node i, (e, G, H), whose branches have their cut numbers in `own`: e added to the cuts of G without H, together with the cuts of H.
 fn cut_node(
     cut: &mut [u32],
     heads: &mut [u32],
@@ -258,11 +257,11 @@ fn cut_node(
 {
     let at = 3 * (i - 2);
     let e = nodes[at];
-    let failed = nodes[at + 1] as usize;
-    let sound = nodes[at + 2] as usize;
-    let f = own[failed];
-    let s = own[sound];
-    match without(cut, heads, next, memo, nodes, count, f, nodes[at + 2]) {
+    let g = nodes[at + 1];
+    let h = nodes[at + 2];
+    let f = own[g as usize];
+    let s = own[h as usize];
+    match without(cut, heads, next, memo, nodes, count, f, h) {
         Built::Short(c) => Built::Short(c),
         Built::Done(r, c) => store::make_z(cut, heads, next, c, e, r, s),
     }
@@ -286,7 +285,7 @@ fn cut_step(
     requires { ⌜ (2 ≤ i) × (i ≤ root) × (root < length (now own)) ⌝ }
     ensures { λ r. ⌜ Steps (now (nodes .entry)) (now (marks .entry)) root (now (cut .entry)) count (now (cut .exit)) (now (heads .exit)) (now (next .exit)) (now (memo .exit)) (now (own .exit)) i r ⌝ }
 {
-    if marks[i] != 1 {
+    if marks[i] == 0 {
         return Built::Done(0, count);
     }
     match cut_node(cut, heads, next, memo, nodes, own, count, i) {
