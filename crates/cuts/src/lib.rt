@@ -136,53 +136,32 @@ fn without_nodes(
 {
     let p = take_apart(cut, heads, next, nodes, count, f, g);
     match ask(memo, p.f1, p.g1) {
-        Known::Node(hi) => match ask(memo, p.f0, p.g0) {
-            Known::Node(lo) => finish(cut, heads, next, memo, count, f, g, at, p.e, hi, lo),
-            Known::Unknown(at0) => match without_nodes(
-                cut,
-                heads,
-                next,
-                memo,
-                nodes,
-                count,
-                p.f0,
-                p.g0,
-                at0,
-            ) {
-                Built::Short(c) => Built::Short(c),
-                Built::Done(lo, c) => finish(cut, heads, next, memo, c, f, g, at, p.e, hi, lo),
-            },
+        Known::Node(r1) => match ask(memo, p.f0, p.g0) {
+            Known::Node(r0) => finish(cut, heads, next, memo, count, f, g, at, p.e, r1, r0),
+            Known::Unknown(at0) => {
+                let b = without_nodes(cut, heads, next, memo, nodes, count, p.f0, p.g0, at0);
+                let Built::Done(r0, c0) = b else {
+                    return b;
+                };
+                finish(cut, heads, next, memo, c0, f, g, at, p.e, r1, r0)
+            }
         },
-        Known::Unknown(at1) => match without_nodes(
-            cut,
-            heads,
-            next,
-            memo,
-            nodes,
-            count,
-            p.f1,
-            p.g1,
-            at1,
-        ) {
-            Built::Short(c) => Built::Short(c),
-            Built::Done(hi, c1) => match ask(memo, p.f0, p.g0) {
-                Known::Node(lo) => finish(cut, heads, next, memo, c1, f, g, at, p.e, hi, lo),
-                Known::Unknown(at0) => match without_nodes(
-                    cut,
-                    heads,
-                    next,
-                    memo,
-                    nodes,
-                    c1,
-                    p.f0,
-                    p.g0,
-                    at0,
-                ) {
-                    Built::Short(c) => Built::Short(c),
-                    Built::Done(lo, c) => finish(cut, heads, next, memo, c, f, g, at, p.e, hi, lo),
-                },
-            },
-        },
+        Known::Unknown(at1) => {
+            let a = without_nodes(cut, heads, next, memo, nodes, count, p.f1, p.g1, at1);
+            let Built::Done(r1, c1) = a else {
+                return a;
+            };
+            match ask(memo, p.f0, p.g0) {
+                Known::Node(r0) => finish(cut, heads, next, memo, c1, f, g, at, p.e, r1, r0),
+                Known::Unknown(at0) => {
+                    let b = without_nodes(cut, heads, next, memo, nodes, c1, p.f0, p.g0, at0);
+                    let Built::Done(r0, c0) = b else {
+                        return b;
+                    };
+                    finish(cut, heads, next, memo, c0, f, g, at, p.e, r1, r0)
+                }
+            }
+        }
     }
 }
 
@@ -283,7 +262,7 @@ fn cut_step(
     requires { ⌜ Base (now nodes) (now marks) root ⌝ }
     requires { ⌜ Halfway (now nodes) (now marks) root (now cut) (now heads) (now next) count (now memo) (now own) i ⌝ }
     requires { ⌜ (2 ≤ i) × (i ≤ root) × (root < length (now own)) ⌝ }
-    ensures { λ r. ⌜ Steps (now (nodes .entry)) (now (marks .entry)) root (now (cut .entry)) count (now (cut .exit)) (now (heads .exit)) (now (next .exit)) (now (memo .exit)) (now (own .exit)) i r ⌝ }
+    ensures { λ r. ⌜ Steps (now (nodes .entry)) (now (marks .entry)) root (now (cut .exit)) (now (heads .exit)) (now (next .exit)) (now (memo .exit)) (now (own .exit)) i r ⌝ }
 {
     if marks[i] == 0 {
         return Built::Done(0, count);
