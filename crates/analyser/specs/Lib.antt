@@ -1,3 +1,4 @@
 -- What the product's calls answer, and what they leave in all that was lent.
 pub mod Memory
 pub mod Analysed
+pub mod Filling

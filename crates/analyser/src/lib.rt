@@ -1,10 +1,24 @@
 // The product: trees read and written, analysed in lent tables, cuts listed, chances bracketed. Each public call answers for any arguments.
+mod filling; // the two tables of a tree
 mod lengths; // number 9
 
+use bracket::Ends;
+use filling::fill;
 use lengths::lengths_ok;
+use listing::Listed;
+use records::Reading;
+use records::Tree;
+use records::Written;
 ghost use mathlib.Core.Path.{_≡_};
-ghost use Rattle.analyser.specs.Memory.{memory, AllZero};
-ghost use Rattle.analyser.specs.Analysed.{Refused, at};
+ghost use Rattle.paper.specs.Limits.{limits};
+ghost use Rattle.records.specs.Judge.{outcome};
+ghost use Rattle.records.specs.Memory.{inMemory};
+ghost use Rattle.records.specs.Bytes.{wrote, writeOf};
+ghost use Rattle.listing.specs.Answers.{Answered};
+ghost use Rattle.bracket.specs.Bracketed.{Bracketed};
+ghost use Rattle.analyser.specs.Memory.{memory};
+ghost use Rattle.analyser.specs.Filling.{WasRead, Tried};
+ghost use Rattle.analyser.specs.Analysed.{Refused, at, Analysed};
 
 // What an analysis answers: its number and place, the counts of both tables and both roots.
 pub struct Analysis {
@@ -27,4 +41,95 @@ fn refused(number: u8, place: usize) -> Analysis
         root: 0,
         cut_root: 0,
     }
+}
+
+// Reads a tree from its bytes.
+pub fn read(bytes: &[u8]) -> Reading
+    ensures { λ r. ⌜ r ≡ inMemory (outcome limits (now (bytes .entry))) ⌝ }
+{
+    records::read(bytes)
+}
+
+// Writes a tree's bytes to the front of room.
+pub fn write(tree: Tree, room: &mut [u8]) -> Written
+    ensures { λ r. ⌜ wrote (r .answer) (r .bytes) (now (room .exit)) ≡ writeOf limits tree (now (room .entry)) ⌝ }
+{
+    records::write(tree, room)
+}
+
+// Lists the cuts of a lent cut diagram, from the beginning or after the set `s`.
+pub fn list(
+    cuts: &[u32],
+    events: usize,
+    count: usize,
+    root: usize,
+    begin: bool,
+    s: [u64; sets::WORDS],
+    room: &mut [u8],
+) -> Listed
+    ensures { λ r. ⌜ Answered events (now (cuts .entry)) count root begin s (now (room .entry)) (now (room .exit)) (r .number) (r .count) (r .used) (r .last) (r .finished) ⌝ }
+{
+    listing::list(cuts, events, count, root, begin, s, room)
+}
+
+// Encloses the chance of the root of a lent diagram, in billionths.
+pub fn bracket(
+    nodes: &[u32],
+    events: usize,
+    count: usize,
+    root: usize,
+    chances: &[u32],
+    lows: &mut [u32],
+    highs: &mut [u32],
+) -> Ends
+    ensures { λ r. ⌜ Bracketed events (now (nodes .entry)) count root (now (chances .entry)) (r .number) (r .low) (r .high) (now (lows .entry)) (now (highs .entry)) (now (lows .exit)) (now (highs .exit)) ⌝ }
+{
+    bracket::bracket(nodes, events, count, root, chances, lows, highs)
+}
+
+// The analysis of a tree that was read: 9, 10, 11, or done.
+fn analyse_tree(
+    tree: Tree,
+    nodes: &mut [u32],
+    cuts: &mut [u32],
+    gates: &mut [u32],
+    memo: &mut [u32],
+    heads: &mut [u32],
+    next: &mut [u32],
+    marks: &mut [u32],
+    own: &mut [u32],
+) -> Analysis
+    requires { ⌜ WasRead tree ⌝ }
+    ensures { λ r. ⌜ Tried tree (memory (now (nodes .entry)) (now (cuts .entry)) (now (gates .entry)) (now (memo .entry)) (now (heads .entry)) (now (next .entry)) (now (marks .entry)) (now (own .entry))) (memory (now (nodes .exit)) (now (cuts .exit)) (now (gates .exit)) (now (memo .exit)) (now (heads .exit)) (now (next .exit)) (now (marks .exit)) (now (own .exit))) r ⌝ }
+{
+    let count = tree.gate_count;
+    if !lengths_ok(nodes, cuts, gates, memo, heads, next, marks, own, count) {
+        return refused(9, 0);
+    }
+    fill(tree, nodes, cuts, gates, memo, heads, next, marks, own)
+}
+
+// Analyses a tree: its diagram in the node table, each gate's node in the gate list, its cuts in the cut table. What the lent memory
+// holds at entry does not matter.
+pub fn analyse(
+    bytes: &[u8],
+    nodes: &mut [u32],
+    cuts: &mut [u32],
+    gates: &mut [u32],
+    memo: &mut [u32],
+    heads: &mut [u32],
+    next: &mut [u32],
+    marks: &mut [u32],
+    own: &mut [u32],
+) -> Analysis
+    ensures { λ r. ⌜ Analysed (now (bytes .entry)) (memory (now (nodes .entry)) (now (cuts .entry)) (now (gates .entry)) (now (memo .entry)) (now (heads .entry)) (now (next .entry)) (now (marks .entry)) (now (own .entry))) (memory (now (nodes .exit)) (now (cuts .exit)) (now (gates .exit)) (now (memo .exit)) (now (heads .exit)) (now (next .exit)) (now (marks .exit)) (now (own .exit))) r ⌝ }
+{
+    let r = records::read(bytes);
+    let a = r.answer;
+    let number = records::number(a);
+    if number != 0 {
+        return refused(number, records::place(a));
+    }
+    let tree = r.tree;
+    analyse_tree(tree, nodes, cuts, gates, memo, heads, next, marks, own)
 }

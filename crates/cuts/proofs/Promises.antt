@@ -24,8 +24,11 @@ use Rattle.tables.specs.Stored.{Lower}
 use Rattle.tables.specs.Lent.{Above, Node, Kind, Lent}
 use Rattle.tables.proofs.Den.{den-0, den-node}
 use Rattle.tables.proofs.Lent.{lent-lower, lent-ordered}
+use Rattle.store.specs.Building.{Has}
+use Rattle.store.specs.declared.Built.{Built}
+use Rattle.store.specs.declared.Built.the-variants.{Done, Short}
 use Rattle.cuts.specs.Reading.{Readable}
-use Rattle.cuts.specs.Cutting.{cutNodes, CutTable}
+use Rattle.cuts.specs.Cutting.{cutNodes, CutTable, Cuts, Full}
 use Rattle.cuts.proofs.Up.{ordered-sub}
 
 -- ---- what the analysis has can be read
@@ -61,6 +64,16 @@ module _ (n : ℕ) (D : Diagram) (F : Fun) (fit : Fit n 0 D) (shows : eval D ≡
 
     pub done-cuts : (S : Set) → In S (setsOf (den C r)) ↔ MinimalCut F S
     done-cuts S = subst (λ l. In S l ↔ MinimalCut F S) (sym done-list) (listed-exactly n D F fit shows S)
+
+  -- EXACTLY: what building answers says whether the nodes needed exceed the capacity
+  pub full-exactly : (C H X : List ℕ) (b : Built) → Cuts D C H X b → Full b ↔ (length C / 3 < cutNodesNeeded n F)
+  full-exactly C H X (Done r d) t = (λ z. absurd z, λ l. let fits = done-fits t in absurd (omega arith))
+  full-exactly C H X (Short d) l = (λ _. short-needs l, λ _. tt)
+
+-- TWO CUT TABLES of one diagram have as many nodes, roots of one family, and each family of the one stands in the other
+pub tables-agree : {D : Diagram} {C H X : List ℕ} {d r : ℕ} {C′ H′ X′ : List ℕ} {d′ r′ : ℕ} → CutTable D C H X d r → CutTable D C′ H′ X′ d′ r′
+    → (d ≡ d′) × (den C r ≡ den C′ r′) × ((i : ℕ) → 2 ≤ i → i < d + 2 → Has C′ d′ (den C i))
+tables-agree {C = C} t u = (t .count ∙ sym (u .count), t .root .is ∙ sym (u .root .is), λ i a b. u .all (den C i) (t .only .each i a b))
 
 -- ---- the cut table passes the check of a lent cut diagram
 

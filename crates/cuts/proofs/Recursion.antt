@@ -84,6 +84,14 @@ remain-less F G F′ G′ e l q a b r =
 pub taken-here : {C H X : List ℕ} {d : ℕ} {M T : List ℕ} {f g r : ℕ} → Ready C H X d M T f g → Answered M f g r → Taken C d T (withoutD (den C f) (den T g)) C H X M d r
 taken-here {C} {H} {X} {d} {M} {T} rd a = record { made = makes-here (rd .store) (a .found C H X d T rd); memo = rd .memo }
 
+-- ---- a part that finds no room
+
+-- the answer is handed on
+pub handed : {C₁ C : List ℕ} {d₁ d : ℕ} {A D : Diagram} {C′ H′ X′ : List ℕ} (T M′ : List ℕ) (b : Built) {k : ℕ} → b ≡ Short k
+    → ((d′ : ℕ) → Stops (Part A) C₁ d₁ C′ H′ X′ d′ → Stops (Part D) C d C′ H′ X′ d′) → Takes C₁ d₁ T A C′ H′ X′ M′ b → Takes C d T D C′ H′ X′ M′ b
+handed T M′ (Done r d′) e f t = let z : _≡_ {A = ℕ} 0 1 = cc in absurd (omega arith)
+handed T M′ (Short d′) e f t = f d′ t
+
 -- ---- the recursion
 
 module _ {C H X : List ℕ} {d : ℕ} {M T : List ℕ} {f g : ℕ} {p : Parts} (rd : Ready C H X d M T f g) (k : Parted C T f g p) where

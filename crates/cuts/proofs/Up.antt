@@ -83,16 +83,16 @@ module _ {T K : List ℕ} {root : ℕ} (base : Base T K root) where
 
   module _ {C H X : List ℕ} {d : ℕ} {M O : List ℕ} {i : ℕ} (h : Halfway T K root C H X d M O i) where
     -- a number that the root does not reach
-    pub up-skip : getD K i 0 ≢ 1 → Halfway T K root C H X d M O (i + 1)
-    up-skip n = record { store = h .store; memo = h .memo; only = h .only; own = λ j l q. go j l q (ℕ-discrete j i) }
+    pub up-skip : getD K i 0 ≡ 0 → Halfway T K root C H X d M O (i + 1)
+    up-skip z = record { store = h .store; memo = h .memo; only = h .only; own = λ j l q. go j l q (ℕ-discrete j i) }
       where
         go : (j : ℕ) → j < i + 1 → getD K j 0 ≡ 1 → Dec (j ≡ i) → Found C d (cutsD (den T j)) (getD O j 0)
-        go j l q (yes e) = absurd (n (subst (λ x. getD K x 0 ≡ 1) e q))
+        go j l q (yes e) = let one = subst (λ x. getD K x 0 ≡ 1) e q in absurd (omega arith)
         go j l q (no m) = h .own j (omega arith) q
 
-    module _ (two : 2 ≤ i) (to : i ≤ root) (marked : getD K i 0 ≡ 1) where
+    module _ (two : 2 ≤ i) (to : i ≤ root) (marked : getD K i 0 ≢ 0) where
       reached : Reached T root i
-      reached = base .marked .reached i marked
+      reached = base .marked .reached i (let b = base .marked .bit i in omega (arith, marked))
 
       held : Held T i
       held = held-low (base .function .held) to

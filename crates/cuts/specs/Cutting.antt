@@ -41,9 +41,14 @@ pub record CutTable (D : Diagram) (C H X : List ℕ) (d r : ℕ) : Type 0 where
   pub count : d ≡ cutNodes D
 
 -- done, or the wanted nodes exceed the capacity
-abbrev pub Cuts : (D : Diagram) (C′ H′ X′ : List ℕ) → Built → Type 0
-Cuts D C′ H′ X′ (Done r d) = CutTable D C′ H′ X′ d r
-Cuts D C′ H′ X′ (Short d) = length C′ / 3 < cutNodes D
+abbrev pub Cuts : (D : Diagram) (C H X : List ℕ) → Built → Type 0
+Cuts D C H X (Done r d) = CutTable D C H X d r
+Cuts D C H X (Short d) = length C / 3 < cutNodes D
+
+-- the answer that the cut table is full
+abbrev pub Full : Built → Type 0
+Full (Done r d) = ⊥
+Full (Short d) = Unit {0}
 
 -- ---- on the way
 
@@ -80,6 +85,6 @@ pub record Base (T K : List ℕ) (root : ℕ) : Type 0 where
   pub long : root < length K
 
 -- one number further, or full
-abbrev pub Steps : (T K : List ℕ) (root : ℕ) (C : List ℕ) (d : ℕ) (C′ H′ X′ M′ O′ : List ℕ) (i : ℕ) → Built → Type 0
-Steps T K root C d C′ H′ X′ M′ O′ i (Done r d′) = Halfway T K root C′ H′ X′ d′ M′ O′ (i + 1)
-Steps T K root C d C′ H′ X′ M′ O′ i (Short d′) = length C′ / 3 < cutNodes (den T root)
+abbrev pub Steps : (T K : List ℕ) (root : ℕ) (C H X M O : List ℕ) (i : ℕ) → Built → Type 0
+Steps T K root C H X M O i (Done r d) = Halfway T K root C H X d M O (i + 1)
+Steps T K root C H X M O i (Short d) = length C / 3 < cutNodes (den T root)

@@ -136,53 +136,32 @@ fn without_nodes(
 {
     let p = take_apart(cut, heads, next, nodes, count, f, g);
     match ask(memo, p.f1, p.g1) {
-        Known::Node(hi) => match ask(memo, p.f0, p.g0) {
-            Known::Node(lo) => finish(cut, heads, next, memo, count, f, g, at, p.e, hi, lo),
-            Known::Unknown(at0) => match without_nodes(
-                cut,
-                heads,
-                next,
-                memo,
-                nodes,
-                count,
-                p.f0,
-                p.g0,
-                at0,
-            ) {
-                Built::Short(c) => Built::Short(c),
-                Built::Done(lo, c) => finish(cut, heads, next, memo, c, f, g, at, p.e, hi, lo),
-            },
+        Known::Node(r1) => match ask(memo, p.f0, p.g0) {
+            Known::Node(r0) => finish(cut, heads, next, memo, count, f, g, at, p.e, r1, r0),
+            Known::Unknown(at0) => {
+                let b = without_nodes(cut, heads, next, memo, nodes, count, p.f0, p.g0, at0);
+                let Built::Done(r0, c0) = b else {
+                    return b;
+                };
+                finish(cut, heads, next, memo, c0, f, g, at, p.e, r1, r0)
+            }
         },
-        Known::Unknown(at1) => match without_nodes(
-            cut,
-            heads,
-            next,
-            memo,
-            nodes,
-            count,
-            p.f1,
-            p.g1,
-            at1,
-        ) {
-            Built::Short(c) => Built::Short(c),
-            Built::Done(hi, c1) => match ask(memo, p.f0, p.g0) {
-                Known::Node(lo) => finish(cut, heads, next, memo, c1, f, g, at, p.e, hi, lo),
-                Known::Unknown(at0) => match without_nodes(
-                    cut,
-                    heads,
-                    next,
-                    memo,
-                    nodes,
-                    c1,
-                    p.f0,
-                    p.g0,
-                    at0,
-                ) {
-                    Built::Short(c) => Built::Short(c),
-                    Built::Done(lo, c) => finish(cut, heads, next, memo, c, f, g, at, p.e, hi, lo),
-                },
-            },
-        },
+        Known::Unknown(at1) => {
+            let a = without_nodes(cut, heads, next, memo, nodes, count, p.f1, p.g1, at1);
+            let Built::Done(r1, c1) = a else {
+                return a;
+            };
+            match ask(memo, p.f0, p.g0) {
+                Known::Node(r0) => finish(cut, heads, next, memo, c1, f, g, at, p.e, r1, r0),
+                Known::Unknown(at0) => {
+                    let b = without_nodes(cut, heads, next, memo, nodes, c1, p.f0, p.g0, at0);
+                    let Built::Done(r0, c0) = b else {
+                        return b;
+                    };
+                    finish(cut, heads, next, memo, c0, f, g, at, p.e, r1, r0)
+                }
+            }
+        }
     }
 }
 
@@ -241,8 +220,7 @@ pub fn mark(nodes: &[u32], marks: &mut [u32], root: usize)
 
 // ---- from the leaves up to the root
 
-// The cuts of node i, whose branches have their cut numbers in `own`: the event added to the failed branch's cuts without the sound branch,
-// together with the sound branch's cuts.
+// The cuts of node i, (e, G, H), whose branches have their cut numbers in `own`: e added to the cuts of G without H, together with the cuts of H.
 fn cut_node(
     cut: &mut [u32],
     heads: &mut [u32],
@@ -258,11 +236,11 @@ fn cut_node(
 {
     let at = 3 * (i - 2);
     let e = nodes[at];
-    let failed = nodes[at + 1] as usize;
-    let sound = nodes[at + 2] as usize;
-    let f = own[failed];
-    let s = own[sound];
-    match without(cut, heads, next, memo, nodes, count, f, nodes[at + 2]) {
+    let g = nodes[at + 1];
+    let h = nodes[at + 2];
+    let f = own[g as usize];
+    let s = own[h as usize];
+    match without(cut, heads, next, memo, nodes, count, f, h) {
         Built::Short(c) => Built::Short(c),
         Built::Done(r, c) => store::make_z(cut, heads, next, c, e, r, s),
     }
@@ -284,9 +262,9 @@ fn cut_step(
     requires { ⌜ Base (now nodes) (now marks) root ⌝ }
     requires { ⌜ Halfway (now nodes) (now marks) root (now cut) (now heads) (now next) count (now memo) (now own) i ⌝ }
     requires { ⌜ (2 ≤ i) × (i ≤ root) × (root < length (now own)) ⌝ }
-    ensures { λ r. ⌜ Steps (now (nodes .entry)) (now (marks .entry)) root (now (cut .entry)) count (now (cut .exit)) (now (heads .exit)) (now (next .exit)) (now (memo .exit)) (now (own .exit)) i r ⌝ }
+    ensures { λ r. ⌜ Steps (now (nodes .entry)) (now (marks .entry)) root (now (cut .exit)) (now (heads .exit)) (now (next .exit)) (now (memo .exit)) (now (own .exit)) i r ⌝ }
 {
-    if marks[i] != 1 {
+    if marks[i] == 0 {
         return Built::Done(0, count);
     }
     match cut_node(cut, heads, next, memo, nodes, own, count, i) {

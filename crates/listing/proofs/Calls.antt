@@ -112,8 +112,9 @@ module _ {n : ℕ} {T : List ℕ} {c : ℕ} {l : List Set} {base room₀ room P 
       go (suc m) e = let h : 0 < k = omega arith in s h ∙ r .last h .is
 
   -- the loop ends: no cut is left
-  pub run-end : {last : List ℕ} → found ≡ false → (k ≡ 0 → last ≡ base) × (0 < k → setOf last ≡ ofEvents (picked room from size)) → Listing n l (setOf base) room₀ room 0 k used last true
-  run-end {last} e q =
+  pub run-end : {last : List ℕ} {a k′ used′ : ℕ} {last′ : List ℕ} {fin : Bool} → found ≡ false → (k ≡ 0 → last ≡ base) × (0 < k → setOf last ≡ ofEvents (picked room from size))
+      → (a ≡ 0) × (k′ ≡ k) × (used′ ≡ used) × (last′ ≡ last) × (fin ≡ true) → Listing n l (setOf base) room₀ room a k′ used′ last′ fin
+  run-end {last} e q y =
       let z : r .left ≡ [] = r .left-is ∙ ap (λ (f : Bool). leftOf f T P d) e in
       let u = r .bytes-used in
       let w = r .within in
@@ -124,12 +125,12 @@ module _ {n : ℕ} {T : List ℕ} {c : ℕ} {l : List Set} {base room₀ room P 
         within = omega arith;
         full = λ S y p. absurd (nil-cons (sym z ∙ p));
         some = λ _. z;
-        is = refl;
-        cuts = r .count;
-        long = r .bytes-used;
-        bytes = r .bytes;
-        last-set = run-last last (q .0) (q .1);
-        end = (λ _. z, λ _. refl);
+        is = y .0;
+        cuts = y .1 ∙ r .count;
+        long = y .2 ∙ r .bytes-used;
+        bytes = r .bytes ∙ ap (λ (j : ℕ). setsBytes n (r .written) ++ drop j room₀) (sym (y .2));
+        last-set = ap setOf (y .3) ∙ run-last last (q .0) (q .1);
+        end = (λ _. z, λ _. y .4);
       })
 
   module _ (is : found ≡ true) where

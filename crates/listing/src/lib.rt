@@ -148,6 +148,19 @@ fn refused(number: u8) -> Listed
     }
 }
 
+// Number 0.
+fn done(count: usize, used: usize, last: [u64; sets::WORDS], finished: bool) -> Listed
+    ensures { λ r. ⌜ (r .number ≡ 0) × (r .count ≡ count) × (r .used ≡ used) × (r .last ≡ last) × (r .finished ≡ finished) ⌝ }
+{
+    Listed {
+        number: 0,
+        count,
+        used,
+        last,
+        finished,
+    }
+}
+
 // The answer where the next cut does not fit.
 fn stopped(count: usize, used: usize, last: [u64; sets::WORDS]) -> Listed
     ensures { λ r. ⌜ Stopped count used last (r .number) (r .count) (r .used) (r .last) (r .finished) ⌝ }
@@ -155,13 +168,7 @@ fn stopped(count: usize, used: usize, last: [u64; sets::WORDS]) -> Listed
     if count == 0 {
         return refused(14);
     }
-    Listed {
-        number: 0,
-        count,
-        used,
-        last,
-        finished: false,
-    }
+    done(count, used, last, false)
 }
 
 // Writes as many whole cuts as fit, in order: of all, or of those after the set `base`.
@@ -200,13 +207,7 @@ fn list_cuts(
         depth = next.depth;
     }
     let last = last_set(room, k, from, size, base);
-    Listed {
-        number: 0,
-        count: k,
-        used,
-        last,
-        finished: true,
-    }
+    done(k, used, last, true)
 }
 
 // Lists the cuts of a lent cut diagram, from the beginning or after the set `s`.

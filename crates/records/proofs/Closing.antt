@@ -2,17 +2,16 @@
 -- Assumes nothing.
 use mathlib.Core.Path.{_≡_, refl, sym, ap, _∙_}
 use mathlib.Core.List.{List}
-use Prim.Native.Nat.{ℕ, _+_, _-_, _*_, _≤_, _<_}
+use Prim.Native.Nat.{ℕ, _-_, _*_, _≤_}
 use native.Mathlib.Omega.{arith}
 use lib.ListN.{length, getD, take, length-take}
 use Rattle.paper.specs.Limits.{limits}
-use Rattle.paper.specs.Lists.{sum}
 use Rattle.records.specs.Answers.{verdict}
 use Rattle.records.specs.Format.{lengthOf}
 use Rattle.paper.specs.Flat.{gatesFrom}
 use Rattle.records.specs.Uses.{lowestUnused, unusedOf}
 use Rattle.records.specs.Judge.{Book, Outcome, refuse, accept, unusedBy, closeOf, answerOf, counts, outcome, judge}
-use Rattle.records.specs.Memory.{memory, inMemory}
+use Rattle.records.specs.Memory.{inMemory}
 use Rattle.records.specs.Inner.{Complete, Fronts, Held, Sized}
 use Rattle.records.specs.declared.Answer.{Answer}
 use Rattle.records.specs.declared.Answer.the-variants.{Done, Unused}

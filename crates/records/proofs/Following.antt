@@ -1,25 +1,21 @@
 -- The writing of a tree, followed record by record along the tree's bytes.
 -- Assumes nothing.
 use mathlib.Core.Path.{_≡_, refl, sym, ap, _∙_}
-use mathlib.Core.Bool.{Bool, true, false}
 use mathlib.Core.List.{List, [], _∷_, _++_}
-use Prim.Native.Nat.{ℕ, zero, suc, _+_, _-_, _*_, _≤_, _<_}
+use Prim.Native.Nat.{ℕ, zero, _+_, _-_, _*_, _≤_, _<_}
 use native.Mathlib.Omega.{arith}
 use lib.ListN.{length, getD, drop, length-drop, length-append}
-use lib.Dec.{ltb, eqb}
-use borrow.Author.Tests.{ltb-true, ltb-false, lt-ltb, le-ltb}
+use lib.Dec.{ltb}
+use borrow.Author.Tests.{ltb-false, lt-ltb, le-ltb}
 use Rattle.paper.specs.Limits.{limits}
 use Rattle.records.specs.Format.{recordOf, widthOf, encode}
 use Rattle.records.specs.Rules.{admitOf, stepOf}
-use Rattle.paper.specs.Flat.{gatesFrom}
 use Rattle.records.specs.Judge.{pastEvent, pastGate, pastInput}
 use Rattle.records.specs.Bytes.{inputBytes, gateBytes, eventBytes, bytesOf, chanceAt, nextOf}
 use Rattle.records.specs.Inner.{Own, Within}
 use Rattle.records.specs.declared.format.Record.{Record}
 use Rattle.records.specs.declared.format.Record.the-variants.{Missing, Unknown, Short, Event, Gate, EventInput, GateInput, End}
 use Rattle.records.specs.declared.judge.State.{State}
-use Rattle.records.specs.declared.judge.Step.{Step}
-use Rattle.records.specs.declared.judge.Step.the-variants.{AddEvent, AddGate, AddInput, Close, Refused}
 use Rattle.records.specs.declared.Tree.{Tree}
 use Rattle.records.proofs.Cases.{if-elim, ≤-or, gate-small}
 use Rattle.records.proofs.Steps.{OnEvent, OnGate, OnInput, input-small}

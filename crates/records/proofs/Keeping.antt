@@ -1,13 +1,13 @@
 -- What holds of every book that a run comes to.
 -- Assumes nothing.
-use mathlib.Core.Path.{_≡_, refl, sym, ap, _∙_}
-use mathlib.Core.Bool.{Bool, true, false}
-use mathlib.Core.List.{List, [], _∷_, _++_}
-use Prim.Native.Nat.{ℕ, zero, suc, _+_, _-_, _*_, _≤_, _<_}
+use mathlib.Core.Path.{_≡_, refl, ap, _∙_}
+use mathlib.Core.Bool.{false}
+use mathlib.Core.List.{List}
+use Prim.Native.Nat.{ℕ, _+_, _-_, _*_, _≤_, _<_}
 use native.Mathlib.Omega.{arith}
-use lib.ListN.{length, getD, take, drop}
+use lib.ListN.{length, getD, take}
 use lib.Seq.{take-all}
-use lib.Dec.{ltb, eqb}
+use lib.Dec.{ltb}
 use borrow.Author.Tests.{ltb-true, ltb-false, le-ltb}
 use borrow.Author.Count.{below-more}
 use Rattle.paper.specs.Limits.{limits, billion}
@@ -20,10 +20,8 @@ use Rattle.records.specs.Judge.{Book, start, counts, _▷_, addEvent, ad
 use Rattle.records.specs.Memory.{noEvent}
 use Rattle.records.specs.Trees.{Fits}
 use Rattle.records.specs.Inner.{Bounded}
-use Rattle.records.specs.declared.Event.{Event as EventOf}
 use Rattle.records.specs.declared.format.Record.{Record}
 use Rattle.records.specs.declared.format.Record.the-variants.{Missing, Unknown, Short, Event, Gate, EventInput, GateInput, End}
-use Rattle.records.specs.declared.judge.State.{State}
 use Rattle.records.proofs.Cases.{if-elim, either, front, known, gate-small}
 use Rattle.records.proofs.Pad.{length-▷}
 use Rattle.records.proofs.Steps.{OnEvent, OnGate, OnInput, IsInput, codeOf}

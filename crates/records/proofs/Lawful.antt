@@ -1,11 +1,10 @@
 -- What holds of every accepted tree: as lists, and as the paper has it.
 -- Assumes nothing.
-use mathlib.Core.Path.{_≡_, refl, sym, ap, _∙_}
+use mathlib.Core.Path.{_≡_, refl, ap}
 use mathlib.Core.Bool.{Bool, true, false}
 use mathlib.Core.List.{List, [], _∷_, map}
 use Prim.Native.Nat.{ℕ, zero, suc, _+_, _-_, _*_, _≤_, _<_}
 use native.Mathlib.Omega.{arith}
-use native.Mathlib.Numerals.{add-one}
 use native.Mathlib.Nat.{zero-add}
 use lib.ListN.{length, getD, take, drop, length-take, length-map}
 use lib.Seq.{getD-drop, getD-take, drop-drop, take-all}
@@ -13,18 +12,15 @@ use lib.Dec.{ltb, eqb}
 use borrow.Author.Tests.{ltb-true, ltb-false, eqb-false}
 use Rattle.paper.specs.Limits.{limits}
 use Rattle.paper.specs.Lists.{sum}
-use Rattle.paper.specs.Trees.{Input, event, gate, Gate, andG, orG, leastG, events, InputBelow, InputsBelow, GateBelow, TreeBelow}
-use Rattle.records.specs.Choice.{if_then_else_}
+use Rattle.paper.specs.Trees.{Input, event, Gate, events, InputBelow, InputsBelow, GateBelow, TreeBelow}
 use Rattle.paper.specs.Flat.{gatesFrom, inputOf, gateOf, gatesOf}
 use Rattle.records.specs.Uses.{among, lowestUnused, unusedOf}
 use Rattle.records.specs.Rules.{wrongK}
-use Rattle.records.specs.Judge.{Book, start, accept, unusedBy, outcome}
+use Rattle.records.specs.Judge.{Book, accept, outcome}
 use Rattle.records.specs.Trees.{Fits, Lawful, treeOf, InputLower, InputsLower, GateLower, TreeLower}
-use Rattle.records.specs.declared.Event.{Event}
 use Rattle.records.specs.declared.uses.Found.{Found}
 use Rattle.records.specs.declared.uses.Found.the-variants.{At, Nothing}
 use Rattle.records.proofs.Cases.{if-elim, either}
-use Rattle.records.proofs.Keeping.{Kept}
 use Rattle.records.proofs.Sums.{sum-take, sum-rises}
 use Rattle.records.proofs.Runs.{Closed, accepted-keeps}
 

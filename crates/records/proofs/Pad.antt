@@ -1,10 +1,9 @@
 -- Laws of a list that is filled up to a length: the array that holds it.
 -- Assumes nothing.
-use mathlib.Core.Path.{_≡_, refl, sym, ap, _∙_}
-use mathlib.Core.List.{List, [], _∷_, _++_, append-assoc}
-use Prim.Native.Nat.{ℕ, zero, suc, _+_, _-_, _≤_, _<_}
+use mathlib.Core.Path.{_≡_, sym, _∙_}
+use mathlib.Core.List.{List, [], _∷_, append-assoc}
+use Prim.Native.Nat.{ℕ, suc, _+_, _-_, _≤_, _<_}
 use native.Mathlib.Omega.{arith}
-use native.Mathlib.Nat.{sub-zero}
 use lib.ListN.{length, getD, take, set, replicate, length-append, length-replicate, List·getD-append}
 use lib.Seq.{take-append-seam, set-append-seam}
 use Rattle.records.specs.Judge.{_▷_}

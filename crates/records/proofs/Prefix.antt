@@ -1,14 +1,13 @@
 -- Input that is longer than any tree is decided by its first bytes.
 -- Assumes nothing.
 use mathlib.Core.Path.{_≡_, refl, sym, ap, _∙_}
-use mathlib.Core.Bool.{Bool, true, false}
 use mathlib.Core.List.{List}
 use Prim.Native.Nat.{ℕ, zero, suc, _+_, _-_, _≤_, _<_}
 use native.Mathlib.Omega.{arith}
 use native.Mathlib.Numerals.{add-one}
 use lib.ListN.{length, getD, take, drop, length-drop}
 use lib.Seq.{getD-drop, getD-take, length-take-le, take-all}
-use lib.Dec.{ltb, eqb}
+use lib.Dec.{ltb}
 use borrow.Author.Tests.{lt-ltb, le-ltb, ne-eqb, ltb-true, ltb-false}
 use Rattle.paper.specs.Limits.{limits}
 use Rattle.records.specs.Format.{byte, lengthOf, bodyOf, recordOf}

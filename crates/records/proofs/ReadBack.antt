@@ -2,32 +2,28 @@
 -- Assumes nothing.
 use mathlib.Core.Path.{_≡_, refl, sym, ap, _∙_}
 use mathlib.Core.List.{List}
-use Prim.Native.Nat.{ℕ, _+_, _-_, _≤_, _<_}
+use Prim.Native.Nat.{ℕ, _≤_, _<_}
 use native.Mathlib.Omega.{arith}
 use native.Mathlib.Nat.{le-antisymm}
 use lib.ListN.{length, getD, drop}
 use lib.Dec.{ltb, eqb}
 use Rattle.paper.specs.Limits.{limits}
-use Rattle.paper.specs.Lists.{sum}
 use Rattle.records.specs.Format.{recordOf}
 use Rattle.paper.specs.Flat.{gatesFrom}
 use Rattle.records.specs.Judge.{Book, start, counts, addEvent, addGate, addInput, accept, outcome}
-use Rattle.records.specs.Memory.{noEvent, memory}
+use Rattle.records.specs.Memory.{memory}
 use Rattle.records.specs.Bytes.{bytesOf, chanceAt, told}
 use Rattle.records.specs.Inner.{Own}
-use Rattle.records.specs.declared.Event.{Event as EventOf}
 use Rattle.records.specs.declared.Tree.{Tree}
-use Rattle.records.specs.declared.format.Record.{Record}
 use Rattle.records.specs.declared.judge.State.{State}
 use Rattle.records.proofs.Cases.{if-elim}
 use Rattle.records.proofs.Coding.{own-unknown, own-end, own-event, own-and, own-or, own-least, own-event-input, own-gate-input}
-use Rattle.records.proofs.Keeping.{Kept}
 use Rattle.records.proofs.Pad.{length-▷}
-use Rattle.records.proofs.Steps.{OnEvent, OnGate, OnInput, OnClose, codeOf}
+use Rattle.records.proofs.Steps.{OnEvent, OnGate, OnInput, codeOf}
 use Rattle.records.proofs.Rest.{nextRecord, which, is-event, is-end, tag}
 use Rattle.records.proofs.Telling.{Tells, tells-start, tells-event, tells-gate, tells-input, tells-all, event-told, gate-told, input-told}
 use Rattle.records.proofs.Following.{Following, follow-start, follow-event, follow-gate, follow-input, at-event, at-gate, at-input, read-back}
-use Rattle.records.proofs.Runs.{Closed, accepted-keeps}
+use Rattle.records.proofs.Runs.{accepted-keeps}
 
 -- each record of a tree is read as itself
 own-next : (t : Tree) (s : State) → Own (nextRecord t s)

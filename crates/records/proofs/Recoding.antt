@@ -1,15 +1,12 @@
 -- What was read as a record is that record's bytes.
 -- Assumes nothing.
-use mathlib.Core.Path.{_≡_, refl, sym, ap, _∙_}
-use mathlib.Core.Bool.{Bool, true, false}
+use mathlib.Core.Path.{_≡_, refl, ap, _∙_}
 use mathlib.Core.List.{List, [], _∷_, _++_}
-use Prim.Native.Nat.{ℕ, zero, suc, _+_, _-_, _*_, _/_, _%_, _≤_, _<_}
+use Prim.Native.Nat.{ℕ, _+_, _-_, _*_, _/_, _%_, _≤_, _<_}
 use native.Mathlib.Omega.{arith}
 use lib.ListN.{length, getD, drop}
-use lib.Dec.{ltb, leb, eqb}
-use borrow.Author.Tests.{ltb-true, ltb-false, eqb-true, eqb-false, lt-ltb, le-ltb}
-use Rattle.records.specs.Choice.{if_then_else_}
-use Rattle.records.specs.Format.{byte, lengthOf, recordOf, widthOf, encode}
+use borrow.Author.Tests.{lt-ltb, le-ltb}
+use Rattle.records.specs.Format.{byte, recordOf, widthOf, encode}
 use Rattle.paper.specs.Flat.{gatesFrom}
 use Rattle.records.specs.Bytes.{inputRecord, gateRecord}
 use Rattle.records.specs.declared.format.Record.{Record}

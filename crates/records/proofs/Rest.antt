@@ -1,18 +1,16 @@
 -- The bytes of a tree from a state of the writing on, and how a record takes them further.
 -- Assumes nothing.
 use mathlib.Core.Path.{_≡_, refl, sym, ap, _∙_}
-use mathlib.Core.Bool.{Bool, true, false}
-use mathlib.Core.List.{List, [], _∷_, _++_}
-use Prim.Native.Nat.{ℕ, zero, suc, _+_, _-_, _*_, _≤_, _<_}
+use mathlib.Core.List.{List, _++_}
+use Prim.Native.Nat.{ℕ, zero, suc, _+_, _-_, _≤_, _<_}
 use native.Mathlib.Omega.{arith}
-use lib.ListN.{length, getD, drop}
-use lib.Dec.{ltb, leb, eqb}
-use borrow.Author.Tests.{ltb-true, ltb-false, eqb-true, eqb-false, lt-ltb, le-ltb}
+use lib.ListN.{getD}
+use lib.Dec.{ltb, eqb}
+use borrow.Author.Tests.{ltb-true, ltb-false, lt-ltb, le-ltb}
 use Rattle.records.specs.Choice.{if_then_else_}
 use Rattle.paper.specs.Limits.{limits}
 use Rattle.records.specs.Format.{encode}
-use Rattle.records.specs.Bytes.{inputRecord, gateRecord, eventAt, gateAt, inputAt, chanceAt, laterOf, nextOf, inputBytes, gateBytes, eventBytes}
-use Rattle.records.specs.Memory.{noEvent}
+use Rattle.records.specs.Bytes.{eventAt, gateAt, inputAt, chanceAt, laterOf, nextOf, inputBytes, gateBytes, eventBytes}
 use Rattle.records.specs.Inner.{Within}
 use Rattle.records.specs.declared.format.Record.{Record}
 use Rattle.records.specs.declared.format.Record.the-variants.{Missing, Unknown, Short, Event, Gate, EventInput, GateInput, End}

@@ -4,27 +4,25 @@ use mathlib.Core.Path.{_≡_, refl, sym, ap, _∙_}
 use mathlib.Core.List.{List, [], _∷_, _++_, append-assoc, append-nil}
 use Prim.Native.Nat.{ℕ, zero, suc, _+_, _-_, _≤_, _<_}
 use native.Mathlib.Omega.{arith}
-use lib.ListN.{length, getD, drop, length-append, length-drop, drop-of-length-le}
+use lib.ListN.{length, getD, drop, length-append, drop-of-length-le}
 use lib.Seq.{drop-drop, getD-drop, getD-append-seam}
 use borrow.Author.Tests.{lt-ltb}
 use Rattle.paper.specs.Limits.{limits}
 use Rattle.paper.specs.Lists.{sum}
 use Rattle.records.specs.Format.{recordOf, widthOf, encode}
 use Rattle.records.specs.Rules.{stepOf}
-use Rattle.records.specs.Judge.{Book, start, counts, _▷_, addEvent, addGate, addInput, Outcome, accept, refuse, unusedBy, closeOf, run, outcome}
+use Rattle.records.specs.Judge.{Book, start, counts, _▷_, addEvent, addGate, addInput, accept, refuse, run, outcome}
 use Rattle.records.specs.Memory.{pad, noEvent, memory}
 use Rattle.records.specs.Bytes.{inputRecord, bytesOf, writeOf, wrote}
 use Rattle.records.specs.declared.Event.{Event as EventOf}
-use Rattle.records.specs.declared.Answer.the-variants.{Done, Unused}
+use Rattle.records.specs.declared.Answer.the-variants.{Done}
 use Rattle.records.specs.declared.Tree.{Tree}
 use Rattle.records.specs.declared.format.Record.{Record}
 use Rattle.records.specs.declared.format.Record.the-variants.{Event, Gate, End}
 use Rattle.records.specs.declared.judge.Step.{Step}
 use Rattle.records.specs.declared.judge.Step.the-variants.{AddEvent, AddGate, AddInput, Close, Refused}
-use Rattle.records.specs.declared.uses.Found.{Found}
-use Rattle.records.specs.declared.uses.Found.the-variants.{At, Nothing}
 use Rattle.records.proofs.Pad.{length-▷, pad-getD}
-use Rattle.records.proofs.Steps.{OnEvent, OnGate, OnInput, OnClose, Sound, sound-step}
+use Rattle.records.proofs.Steps.{Sound, sound-step}
 use Rattle.records.proofs.Keeping.{Kept, kept-start, kept-event, kept-gate, kept-input}
 use Rattle.records.proofs.Runs.{run-event, run-gate, run-input, run-close, run-refused, close-is}
 use Rattle.records.proofs.Rest.{eventRecord, gateRecordAt, inputRecordAt, restAt, rest-event, rest-input, rest-gate, rest-end}

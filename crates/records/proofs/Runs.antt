@@ -1,7 +1,7 @@
 -- A run over some bytes: what a step does to it, and where it stands at a state.
 -- Assumes nothing.
 use mathlib.Core.Path.{_≡_, refl, sym, ap, _∙_}
-use mathlib.Core.List.{List, []}
+use mathlib.Core.List.{List}
 use Prim.Native.Nat.{ℕ, zero, suc, _+_, _-_, _≤_, _<_}
 use native.Mathlib.Numerals.{add-one}
 use native.Mathlib.Omega.{arith}
@@ -9,7 +9,7 @@ use lib.ListN.{length, drop}
 use Rattle.paper.specs.Limits.{limits}
 use Rattle.records.specs.Format.{recordOf}
 use Rattle.records.specs.Rules.{stepOf}
-use Rattle.records.specs.Judge.{Book, start, counts, pastEvent, pastGate, pastInput, Outcome, addEvent, addGate, addInput, accept, refuse, unusedBy, closeOf, run, outcome}
+use Rattle.records.specs.Judge.{Book, start, counts, pastEvent, pastGate, pastInput, addEvent, addGate, addInput, accept, refuse, unusedBy, closeOf, run, outcome}
 use Rattle.records.specs.declared.Answer.{Answer}
 use Rattle.records.specs.declared.Answer.the-variants.{Unused}
 use Rattle.records.specs.declared.uses.Found.{Found}

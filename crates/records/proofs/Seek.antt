@@ -1,18 +1,16 @@
 -- Facts about `sum`, `among` and `lowestUnused`, as the loops of `used` and `missing` walk them.
 -- Assumes nothing.
-use mathlib.Core.Path.{_≡_, refl, sym, ap, _∙_}
-use mathlib.Core.Bool.{Bool, true, false}
-use mathlib.Core.List.{List, [], _∷_}
+use mathlib.Core.Path.{_≡_}
+use mathlib.Core.Bool.{true, false}
+use mathlib.Core.List.{List}
 use Prim.Native.Nat.{ℕ, zero, suc, _+_, _-_, _≤_, _<_}
 use native.Mathlib.Numerals.{add-one}
 use native.Mathlib.Omega.{arith}
 use lib.ListN.{length, getD, drop, drop-of-length-le}
 use lib.Seq.{drop-cons}
-use lib.Dec.{eqb}
 use borrow.Author.Tests.{eq-eqb, ne-eqb}
 use Rattle.paper.specs.Lists.{sum}
 use Rattle.records.specs.Uses.{among, lowestUnused}
-use Rattle.records.specs.declared.uses.Found.{Found}
 use Rattle.records.specs.declared.uses.Found.the-variants.{At, Nothing}
 
 module _ (l : List ℕ) (i : ℕ) (h : i < length l) where

@@ -1,18 +1,17 @@
 -- Where the loop of `read` stands: a run at a state, and a tree whose arrays hold the run's book.
 -- Assumes nothing.
-use mathlib.Core.Path.{_≡_, refl, sym, ap, _∙_}
-use mathlib.Core.List.{List, [], _∷_, _++_}
-use Prim.Native.Nat.{ℕ, zero, suc, _+_, _-_, _≤_, _<_}
+use mathlib.Core.Path.{_≡_, refl, ap}
+use mathlib.Core.List.{List, []}
+use Prim.Native.Nat.{ℕ, _<_}
 use native.Mathlib.Omega.{arith}
-use lib.ListN.{length, set, take}
+use lib.ListN.{length, set}
 use Rattle.paper.specs.Limits.{limits}
 use Rattle.records.specs.Rules.{stepOf}
 use Rattle.records.specs.Judge.{Book, start, counts, pastEvent, pastGate, pastInput, addEvent, addGate, addInput}
 use Rattle.records.specs.Memory.{pad, memory}
 use Rattle.records.specs.Inner.{Fronts, Held}
 use Rattle.records.specs.declared.judge.State.{State}
-use Rattle.records.specs.declared.judge.Step.{Step}
-use Rattle.records.specs.declared.judge.Step.the-variants.{AddEvent, AddGate, AddInput, Close, Refused}
+use Rattle.records.specs.declared.judge.Step.the-variants.{AddEvent, AddGate, AddInput}
 use Rattle.records.specs.declared.Tree.{Tree}
 use Rattle.records.proofs.Keeping.{Kept}
 use Rattle.records.proofs.Pad.{pad-take, pad-fill}

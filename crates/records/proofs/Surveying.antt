@@ -2,13 +2,12 @@
 -- Assumes nothing.
 use mathlib.Core.Path.{_≡_, refl, sym, ap, _∙_}
 use mathlib.Core.List.{List, []}
-use Prim.Native.Nat.{ℕ, _+_, _-_, _≤_, _<_}
-use native.Mathlib.Omega.{arith}
+use Prim.Native.Nat.{ℕ, _+_}
 use lib.ListN.{length, set}
 use Rattle.paper.specs.Limits.{limits}
 use Rattle.records.specs.Format.{widthOf}
 use Rattle.records.specs.Rules.{admitOf, stepOf}
-use Rattle.records.specs.Judge.{Book, start, counts, pastEvent, pastGate, pastInput, outcome, closeOf, accept, refuse, answerOf, unusedBy}
+use Rattle.records.specs.Judge.{Book, start, counts, pastEvent, pastGate, pastInput, outcome, closeOf, refuse, answerOf, unusedBy}
 use Rattle.records.specs.Memory.{pad}
 use Rattle.records.specs.Bytes.{bytesOf}
 use Rattle.records.specs.Inner.{Fronts, Own, Ready, Seeks, Sized, Surveyed}

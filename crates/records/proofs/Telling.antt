@@ -1,26 +1,22 @@
 -- What a tree's bytes tell of it: the lists of a book that was read from them, up to where the reading stands.
 -- Assumes nothing.
 use mathlib.Core.Path.{_≡_, refl, sym, ap, _∙_}
-use mathlib.Core.Bool.{Bool, true, false}
-use mathlib.Core.List.{List, [], _∷_, _++_}
-use Prim.Native.Nat.{ℕ, zero, suc, _+_, _-_, _≤_, _<_}
+use mathlib.Core.List.{List}
+use Prim.Native.Nat.{ℕ, _+_, _<_}
 use native.Mathlib.Omega.{arith}
 use native.Mathlib.Numerals.{add-one}
 use lib.ListN.{length, getD}
 use lib.Dec.{ltb, eqb}
-use borrow.Author.Tests.{ltb-true, ltb-false, lt-ltb, eqb-true}
+use borrow.Author.Tests.{ltb-false, lt-ltb, eqb-true}
 use Rattle.paper.specs.Limits.{limits}
 use Rattle.paper.specs.Lists.{sum}
-use Rattle.records.specs.Format.{recordOf}
 use Rattle.paper.specs.Flat.{gatesFrom}
-use Rattle.records.specs.Judge.{Book, start, counts, _▷_, addEvent, addGate, addInput}
+use Rattle.records.specs.Judge.{Book, start, _▷_, addEvent, addGate, addInput}
 use Rattle.records.specs.Memory.{pad, noEvent, memory}
-use Rattle.records.specs.Bytes.{inputRecord, gateRecord, chanceAt, tabulate, toldLeast, told}
-use Rattle.records.specs.declared.Event.{Event as EventOf}
+use Rattle.records.specs.Bytes.{chanceAt, tabulate, toldLeast, told}
 use Rattle.records.specs.declared.Tree.{Tree}
 use Rattle.records.specs.declared.format.Record.{Record}
-use Rattle.records.specs.declared.format.Record.the-variants.{Unknown, Event, Gate, EventInput, GateInput}
-use Rattle.records.specs.declared.judge.State.{State}
+use Rattle.records.specs.declared.format.Record.the-variants.{Event, Gate}
 use Rattle.records.proofs.Cases.{if-elim}
 use Rattle.records.proofs.Steps.{codeOf}
 use Rattle.records.proofs.Pad.{length-▷}

@@ -8,7 +8,7 @@ use Rattle.paper.specs.Lists.{sum}
 use Rattle.records.specs.Choice.{if_then_else_}
 use Rattle.records.specs.Format.{encode}
 use Rattle.paper.specs.Flat.{gatesFrom}
-use Rattle.records.specs.Judge.{Outcome, accept, refuse, outcome}
+use Rattle.records.specs.Judge.{accept, refuse, outcome}
 use Rattle.records.specs.Memory.{pad, noEvent}
 use Rattle.records.specs.declared.Answer.{Answer}
 use Rattle.records.specs.declared.Answer.the-variants.{Done, Room}

@@ -11,7 +11,6 @@ use Rattle.records.specs.declared.Answer.{Answer}
 use Rattle.records.specs.declared.Answer.the-variants.{Done, Cut, Unused}
 use Rattle.records.specs.declared.Event.{Event}
 use Rattle.records.specs.declared.judge.State.{State}
-use Rattle.records.specs.declared.judge.Step.{Step}
 use Rattle.records.specs.declared.judge.Step.the-variants.{AddEvent, AddGate, AddInput, Close, Refused}
 use Rattle.records.specs.declared.uses.Found.{Found}
 use Rattle.records.specs.declared.uses.Found.the-variants.{At, Nothing}

@@ -8,7 +8,6 @@ use Rattle.paper.specs.Limits.{Limits, billion}
 use Rattle.records.specs.Choice.{if_then_else_}
 use Rattle.records.specs.Format.{recordOf, widthOf}
 use Rattle.paper.specs.Flat.{gatesFrom}
-use Rattle.records.specs.declared.Answer.{Answer}
 use Rattle.records.specs.declared.Answer.the-variants.{Cut, UnknownKind, OutOfPlace, Count, Threshold, Reference, Chance}
 use Rattle.records.specs.declared.format.Record.{Record}
 use Rattle.records.specs.declared.format.Record.the-variants.{Missing, Unknown, Short, Event, Gate, EventInput, GateInput, End}

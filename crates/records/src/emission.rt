@@ -45,6 +45,7 @@ pub fn emit(t: Tree, room: &mut [u8])
             Step::Close => {
                 return;
             }
+            // No record of an accepted tree is refused.
             Step::Refused(_) => {
                 return;
             }

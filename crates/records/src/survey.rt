@@ -1,4 +1,4 @@
-// A tree in memory, judged as its bytes would be.
+// A tree in memory: its records one after the other, and what its bytes would be answered.
 use crate::Answer;
 use crate::Tree;
 use crate::Written;

@@ -13,7 +13,7 @@ use lib.Seq.{getD-set-same, getD-set-other}
 use lib.Pow.{pow-mono, pow-lt}
 use lib.Bits.{bitXor, bitOr, differ}
 use borrow.Author.Tests.{eq-eqb, ne-eqb}
-use Rattle.paper.specs.Sets.{none, put}
+use Rattle.paper.specs.Sets.{Set, none, put}
 use Rattle.sets.specs.Words.{bit, setOf, room, Trail, Lowest, Differ}
 use Rattle.sets.proofs.Bit.{bit-none, bit-shift, bit-own, bit-other, bit-xor, bit-or, bit-lt, xor-same}
 
@@ -116,6 +116,14 @@ module _ (ws : List ℕ) (i : ℕ) where
           let at : i + (j - i) ≡ j = omega arith in
           ap (setOf ws) (sym at) ∙ set-mid (j - i) 0 (omega arith) (ap (λ (n : ℕ). bit n (j - i)) z ∙ bit-none (j - i))
       go j p q (no h) = r .clear j (omega arith) q
+
+-- the search from the next event on goes on
+pub lowest-on : {S : Set} {n i r : ℕ} → Lowest S n (i + 1) r → i < n → i < r
+lowest-on {n = n} {i} {r} lo h = go (decLt r n)
+  where
+    go : Dec (r < n) → i < r
+    go (yes l) = let a = lo .above l in omega arith
+    go (no l) = omega arith
 
 -- ---- the lowest difference
 

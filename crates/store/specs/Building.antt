@@ -68,6 +68,10 @@ abbrev pub Builds : (W : Diagram → Type 0) (T : List ℕ) (c : ℕ) (D : Diagr
 Builds W T c D T′ H′ X′ (Done r c′) = Makes W T c D T′ H′ X′ c′ r
 Builds W T c D T′ H′ X′ (Short c′) = Stops W T c T′ H′ X′ c′
 
+-- what building the one node D answers, its branches being there
+abbrev pub BuildsOne : (T : List ℕ) (c : ℕ) (D : Diagram) (T′ H′ X′ : List ℕ) → Built → Type 0
+BuildsOne T c D T′ H′ X′ r = Builds (Is D) T c D T′ H′ X′ r
+
 -- every stored node is wanted
 pub record Only (W : Diagram → Type 0) (T : List ℕ) (c : ℕ) : Type 0 where
   pub each : (i : ℕ) → 2 ≤ i → i < c + 2 → W (den T i)

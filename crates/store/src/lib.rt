@@ -8,7 +8,7 @@ ghost use Rattle.paper.specs.Diagrams.{node, mkD};
 ghost use Rattle.algebra.specs.Families.{mkZ};
 ghost use Rattle.tables.specs.Table.{den};
 ghost use Rattle.store.specs.Store.{First, Triple, Store, Put, Sought};
-ghost use Rattle.store.specs.Building.{Is, Builds};
+ghost use Rattle.store.specs.Building.{BuildsOne};
 ghost use Rattle.store.specs.Memo.{There, Place, Keeps, Recalls};
 
 // A node and the count of nodes after it; or the table is full. The count grew exactly if the node is new.
@@ -23,7 +23,8 @@ pub enum Known {
     Unknown(usize),
 }
 
-// Where the search for a triple begins: its three numbers mixed to 32 bits, and those scaled to the slots. A product fits 64 bits, however many slots there are.
+// Where the search for a triple begins: its three numbers mixed to 32 bits, and those scaled to the slots.
+// However many slots there are, the product fits 64 bits.
 pub fn first_slot(e: u32, failed: u32, sound: u32, slots: usize) -> usize
     requires { ⌜ 1 ≤ slots ⌝ }
     ensures { λ r. ⌜ First e failed sound slots r ⌝ }
@@ -106,7 +107,7 @@ pub fn find_or_add(
     requires { ⌜ Store (now nodes) (now heads) (now next) count ⌝ }
     requires { ⌜ failed < count + 2 ⌝ }
     requires { ⌜ sound < count + 2 ⌝ }
-    ensures { λ r. ⌜ Builds (Is (node e (den (now (nodes .entry)) failed) (den (now (nodes .entry)) sound))) (now (nodes .entry)) count (node e (den (now (nodes .entry)) failed) (den (now (nodes .entry)) sound)) (now (nodes .exit)) (now (heads .exit)) (now (next .exit)) r ⌝ }
+    ensures { λ r. ⌜ BuildsOne (now (nodes .entry)) count (node e (den (now (nodes .entry)) failed) (den (now (nodes .entry)) sound)) (now (nodes .exit)) (now (heads .exit)) (now (next .exit)) r ⌝ }
 {
     let h = first_slot(e, failed, sound, heads.len());
     let r = find(nodes, heads, next, count, h, e, failed, sound);
@@ -136,7 +137,7 @@ pub fn make(
     requires { ⌜ Store (now nodes) (now heads) (now next) count ⌝ }
     requires { ⌜ failed < count + 2 ⌝ }
     requires { ⌜ sound < count + 2 ⌝ }
-    ensures { λ r. ⌜ Builds (Is (mkD e (den (now (nodes .entry)) failed) (den (now (nodes .entry)) sound))) (now (nodes .entry)) count (mkD e (den (now (nodes .entry)) failed) (den (now (nodes .entry)) sound)) (now (nodes .exit)) (now (heads .exit)) (now (next .exit)) r ⌝ }
+    ensures { λ r. ⌜ BuildsOne (now (nodes .entry)) count (mkD e (den (now (nodes .entry)) failed) (den (now (nodes .entry)) sound)) (now (nodes .exit)) (now (heads .exit)) (now (next .exit)) r ⌝ }
 {
     if failed == sound {
         return Built::Done(failed, count);
@@ -157,7 +158,7 @@ pub fn make_z(
     requires { ⌜ Store (now nodes) (now heads) (now next) count ⌝ }
     requires { ⌜ failed < count + 2 ⌝ }
     requires { ⌜ sound < count + 2 ⌝ }
-    ensures { λ r. ⌜ Builds (Is (mkZ e (den (now (nodes .entry)) failed) (den (now (nodes .entry)) sound))) (now (nodes .entry)) count (mkZ e (den (now (nodes .entry)) failed) (den (now (nodes .entry)) sound)) (now (nodes .exit)) (now (heads .exit)) (now (next .exit)) r ⌝ }
+    ensures { λ r. ⌜ BuildsOne (now (nodes .entry)) count (mkZ e (den (now (nodes .entry)) failed) (den (now (nodes .entry)) sound)) (now (nodes .exit)) (now (heads .exit)) (now (next .exit)) r ⌝ }
 {
     if failed == 0 {
         return Built::Done(sound, count);

@@ -17,7 +17,10 @@ clear-requires-3 : tie.Need-clear-requires-3
 clear-requires-3 c κs = search needs
 
 mark-requires : tie.Need-mark-requires
-mark-requires c κs = ((c .before .before .before .before .before .before .before .before .before .before .before .before .before .before .before .before .before .before .before .before .pre .0) .held, (c .before .before .before .before .before .before .before .before .before .before .before .before .before .before .before .before .before .before .before .before .pre .1) .marks)
+mark-requires c κs =
+    let function = c .before .before .before .before .before .before .before .before .before .before .before .before .before .before .before .before .before .before .before .before .pre .0 in
+    let room = c .before .before .before .before .before .before .before .before .before .before .before .before .before .before .before .before .before .before .before .before .pre .1 in
+    (function .held, room .marks)
 
 slice-write-own : tie.Need-slice-write-own
 slice-write-own c = search needs
@@ -26,7 +29,12 @@ slice-write-own-2 : tie.Need-slice-write-own-2
 slice-write-own-2 c = search needs
 
 cut-all-requires : tie.Need-cut-all-requires
-cut-all-requires c κs = (record { function = (c .before .before .before .before .before .before .before .before .before .before .before .before .before .before .before .before .before .before .before .before .before .before .before .before .before .before .before .before .before .pre .0); marked = c .before .before .before .before .before .before .before .before .mark .ensures; long = omega (arith, c .before .before .before .before .before .before .before .before .mark .kept .1 .0, (c .before .before .before .before .before .before .before .before .before .before .before .before .before .before .before .before .before .before .before .before .before .before .before .before .before .before .before .before .before .pre .1) .marks) }, (up-start (length (c .before .before .before .before .before .before .before .before .before .before .before .before .before .before .before .before .before .before .before .before .before .before .before .before .before .before .before .before .before .args .memo .now)) (room-marks (c .before .before .before .before .before .before .before .before .mark .kept .1 .0) (c .before .before .before .before .before .before .before .before .before .before .before .before .before .before .before .before .before .before .before .before .before .before .before .before .before .before .before .before .before .pre .1)) (c .before .before .before .before .before .before .before .before .before .before .before .before .before .before .before .before .before .before .before .before .clear .ensures) (c .before .before .before .before .before .before .before .before .before .before .before .before .before .before .before .before .clear2 .ensures) (c .before .before .before .before .before .before .before .before .before .before .before .before .clear3 .ensures), simp length-set ((c .before .before .before .before .before .before .before .before .before .before .before .before .before .before .before .before .before .before .before .before .before .before .before .before .before .before .before .before .before .pre .1) .own)))
+cut-all-requires c κs =
+    let function = c .before .before .before .before .before .before .before .before .before .before .before .before .before .before .before .before .before .before .before .before .before .before .before .before .before .before .before .before .before .pre .0 in
+    let room = c .before .before .before .before .before .before .before .before .before .before .before .before .before .before .before .before .before .before .before .before .before .before .before .before .before .before .before .before .before .pre .1 in
+    let same = c .before .before .before .before .before .before .before .before .mark .kept .1 .0 in
+    let memo = c .before .before .before .before .before .before .before .before .before .before .before .before .before .before .before .before .before .before .before .before .before .before .before .before .before .before .before .before .before .args .memo .now in
+    (record { function = function; marked = c .before .before .before .before .before .before .before .before .mark .ensures; long = omega (arith, same, room .marks) }, (up-start (length memo) (room-marks same room) (c .before .before .before .before .before .before .before .before .before .before .before .before .before .before .before .before .before .before .before .before .clear .ensures) (c .before .before .before .before .before .before .before .before .before .before .before .before .before .before .before .before .clear2 .ensures) (c .before .before .before .before .before .before .before .before .before .before .before .before .clear3 .ensures), simp length-set (room .own)))
 
 same-length : tie.Need-same-length
 same-length c = search needs
@@ -50,4 +58,18 @@ returns : tie.Need-returns
 returns c = c .before .before .before .before .before .before .before .before .before .before .cut-all .ensures
 
 pub build-cuts-spec : {M : Type 1} → statement M
-build-cuts-spec = tie.close (tie.spec clear-requires clear-requires-2 clear-requires-3 mark-requires slice-write-own slice-write-own-2 cut-all-requires same-length same-length-2 same-length-3 same-length-4 same-length-5 same-length-6 returns)
+build-cuts-spec = tie.close (tie.spec
+    clear-requires
+    clear-requires-2
+    clear-requires-3
+    mark-requires
+    slice-write-own
+    slice-write-own-2
+    cut-all-requires
+    same-length
+    same-length-2
+    same-length-3
+    same-length-4
+    same-length-5
+    same-length-6
+    returns)

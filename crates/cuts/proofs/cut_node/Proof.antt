@@ -18,53 +18,58 @@ mul-e c = search needs
 shared-slice-read-e : tie.Need-shared-slice-read-e
 shared-slice-read-e c = search needs
 
-add-failed : tie.Need-add-failed
-add-failed c = search needs
+add-g : tie.Need-add-g
+add-g c = search needs
 
-mul-failed : tie.Need-mul-failed
-mul-failed c = search needs
+mul-g : tie.Need-mul-g
+mul-g c = search needs
 
-shared-slice-read-failed : tie.Need-shared-slice-read-failed
-shared-slice-read-failed c = search needs
+shared-slice-read-g : tie.Need-shared-slice-read-g
+shared-slice-read-g c = search needs
 
-cast-failed : tie.Need-cast-failed
-cast-failed c = omega (arith, c .shared-slice-known4 .given (3 * (c .before .before .before .before .before .before .before .before .args .i - 2) + 1))
+add-h : tie.Need-add-h
+add-h c = search needs
 
-add-sound : tie.Need-add-sound
-add-sound c = search needs
+mul-h : tie.Need-mul-h
+mul-h c = search needs
 
-mul-sound : tie.Need-mul-sound
-mul-sound c = search needs
+shared-slice-read-h : tie.Need-shared-slice-read-h
+shared-slice-read-h c = search needs
 
-shared-slice-read-sound : tie.Need-shared-slice-read-sound
-shared-slice-read-sound c = search needs
-
-cast-sound : tie.Need-cast-sound
-cast-sound c = omega (arith, c .shared-slice-known5 .given (3 * (c .before .before .before .before .before .before .before .before .before .args .i - 2) + 2))
+cast-f : tie.Need-cast-f
+cast-f c =
+    let i = c .before .before .before .before .before .before .before .before .before .args .i in
+    omega (arith, c .before .shared-slice-known4 .given (3 * (i - 2) + 1))
 
 mul-f : tie.Need-mul-f
-mul-f c = let f = failed-own (c .before .before .before .before .before .before .before .before .before .pre) in omega arith
+mul-f c =
+    let turn = c .before .before .before .before .before .before .before .before .before .pre in
+    omega (arith, failed-own turn)
 
 shared-slice-read-f : tie.Need-shared-slice-read-f
-shared-slice-read-f c = let f = failed-own (c .before .before .before .before .before .before .before .before .before .before .pre) in omega arith
+shared-slice-read-f c =
+    let turn = c .before .before .before .before .before .before .before .before .before .before .pre in
+    failed-own turn
+
+cast-s : tie.Need-cast-s
+cast-s c =
+    let i = c .before .before .before .before .before .before .before .before .before .before .args .i in
+    omega (arith, c .before .shared-slice-known5 .given (3 * (i - 2) + 2))
 
 mul-s : tie.Need-mul-s
-mul-s c = let s = sound-own (c .before .before .before .before .before .before .before .before .before .before .pre) in omega arith
+mul-s c =
+    let turn = c .before .before .before .before .before .before .before .before .before .before .pre in
+    omega (arith, sound-own turn)
 
 shared-slice-read-s : tie.Need-shared-slice-read-s
-shared-slice-read-s c = let s = sound-own (c .before .before .before .before .before .before .before .before .before .before .before .pre) in omega arith
-
-add-without : tie.Need-add-without
-add-without c = search needs
-
-mul-without : tie.Need-mul-without
-mul-without c = search needs
-
-shared-slice-read-without : tie.Need-shared-slice-read-without
-shared-slice-read-without c = search needs
+shared-slice-read-s c =
+    let turn = c .before .before .before .before .before .before .before .before .before .before .before .pre in
+    sound-own turn
 
 without-requires : tie.Need-without-requires
-without-requires c κs = node-ready (c .before .before .before .before .before .before .before .before .before .before .before .before .before .before .before .before .pre)
+without-requires c κs =
+    let turn = c .before .before .before .before .before .before .before .before .before .before .before .before .before .before .before .pre in
+    node-ready turn
 
 enum-known-c : tie.Need-enum-known-c
 enum-known-c c = search needs
@@ -73,7 +78,10 @@ enum-known-r : tie.Need-enum-known-r
 enum-known-r c = search needs
 
 make-z-requires : tie.Need-make-z-requires
-make-z-requires c κs = made-ready (c .before .before .before .before .before .before .before .before .before .before .before .before .before .before .before .before .before .before .before .before .before .before .before .before .before .before .before .before .before .before .before .pre) (rw (c .before .before .before .before .r .given .1) at (c .before .before .before .before .before .before .before .before .before .before .before .before .before .before .without .ensures))
+make-z-requires c κs =
+    let turn = c .before .before .before .before .before .before .before .before .before .before .before .before .before .before .before .before .before .before .before .before .before .before .before .before .before .before .before .before .before .before .pre in
+    let taken = rw (c .before .before .before .before .r .given .1) at (c .before .before .before .before .before .before .before .before .before .before .before .before .before .before .without .ensures) in
+    made-ready turn taken
 
 same-length : tie.Need-same-length
 same-length c = search needs
@@ -88,7 +96,9 @@ same-length-4 : tie.Need-same-length-4
 same-length-4 c = search needs
 
 returns : tie.Need-returns
-returns c = node-short (c .before .before .before .before .before .before .before .before .before .before .before .before .before .before .before .before .before .before .before .before .before .before .before .before .before .before .before .before .pre) (rw (c .before .c .given .1) at (c .before .before .before .before .before .before .before .before .before .before .before .without .ensures))
+returns c =
+    let turn = c .before .before .before .before .before .before .before .before .before .before .before .before .before .before .before .before .before .before .before .before .before .before .before .before .before .before .before .pre in
+    node-short turn (rw (c .before .c .given .1) at (c .before .before .before .before .before .before .before .before .before .before .before .without .ensures))
 
 same-length-5 : tie.Need-same-length-5
 same-length-5 c = search needs
@@ -103,7 +113,41 @@ same-length-8 : tie.Need-same-length-8
 same-length-8 c = search needs
 
 returns-2 : tie.Need-returns-2
-returns-2 c = node-made (c .before .before .before .before .before .before .before .before .before .before .before .before .before .before .before .before .before .before .before .before .before .before .before .before .before .before .before .before .before .before .before .before .before .before .before .before .before .before .pre) (rw (c .before .before .before .before .before .before .before .before .before .before .before .r .given .1) at (c .before .before .before .before .before .before .before .before .before .before .before .before .before .before .before .before .before .before .before .before .before .without .ensures)) (c .before .before .before .before .before .before .make-z .last .0) (c .before .before .before .before .before .before .make-z .last .1 .0) (c .before .before .before .before .before .before .make-z .last .1 .1 .0) (c .before .before .before .before .before .before .make-z .result) (c .before .before .before .before .before .before .make-z .ensures)
+returns-2 c =
+    let turn = c .before .before .before .before .before .before .before .before .before .before .before .before .before .before .before .before .before .before .before .before .before .before .before .before .before .before .before .before .before .before .before .before .before .before .before .before .before .pre in
+    let taken = rw (c .before .before .before .before .before .before .before .before .before .before .before .r .given .1) at (c .before .before .before .before .before .before .before .before .before .before .before .before .before .before .before .before .before .before .before .before .before .without .ensures) in
+    let made = c .before .before .before .before .before .before .make-z in
+    node-made turn taken (made .last .0) (made .last .1 .0) (made .last .1 .1 .0) (made .result) (made .ensures)
 
 pub cut-node-spec : {M : Type 1} → statement M
-cut-node-spec = tie.close (tie.spec sub-at mul-at mul-e shared-slice-read-e add-failed mul-failed shared-slice-read-failed cast-failed add-sound mul-sound shared-slice-read-sound cast-sound mul-f shared-slice-read-f mul-s shared-slice-read-s add-without mul-without shared-slice-read-without without-requires enum-known-c enum-known-r make-z-requires same-length same-length-2 same-length-3 same-length-4 returns same-length-5 same-length-6 same-length-7 same-length-8 returns-2)
+cut-node-spec = tie.close (tie.spec
+    sub-at
+    mul-at
+    mul-e
+    shared-slice-read-e
+    add-g
+    mul-g
+    shared-slice-read-g
+    add-h
+    mul-h
+    shared-slice-read-h
+    cast-f
+    mul-f
+    shared-slice-read-f
+    cast-s
+    mul-s
+    shared-slice-read-s
+    without-requires
+    enum-known-c
+    enum-known-r
+    make-z-requires
+    same-length
+    same-length-2
+    same-length-3
+    same-length-4
+    returns
+    same-length-5
+    same-length-6
+    same-length-7
+    same-length-8
+    returns-2)

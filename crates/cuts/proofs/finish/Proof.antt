@@ -43,4 +43,17 @@ returns-2 : tie.Need-returns-2
 returns-2 c = record { made = rw (c .before .before .before .before .before .r .given .1) at (c .before .before .before .before .before .before .before .before .before .before .before .before .before .make-z .ensures); kept = c .before .before .keep .ensures }
 
 pub finish-spec : {M : Type 1} → statement M
-finish-spec = tie.close (tie.spec make-z-requires enum-known-c enum-known-r keep-requires same-length same-length-2 same-length-3 returns same-length-4 same-length-5 same-length-6 same-length-7 returns-2)
+finish-spec = tie.close (tie.spec
+    make-z-requires
+    enum-known-c
+    enum-known-r
+    keep-requires
+    same-length
+    same-length-2
+    same-length-3
+    returns
+    same-length-4
+    same-length-5
+    same-length-6
+    same-length-7
+    returns-2)

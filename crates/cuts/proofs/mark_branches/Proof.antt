@@ -13,7 +13,9 @@ slice-read-if1 : tie.Need-slice-read-if1
 slice-read-if1 c = search needs
 
 returns : tie.Need-returns
-returns c = spread-none (c .before .before .before .before .args .marks .now) (c .if1 .taken)
+returns c =
+    let marks = c .before .before .before .before .args .marks .now in
+    spread-none marks (c .if1 .taken)
 
 failed-of-requires : tie.Need-failed-of-requires
 failed-of-requires c κs = search needs
@@ -22,22 +24,61 @@ sound-of-requires : tie.Need-sound-of-requires
 sound-of-requires c κs = search needs
 
 mul-marks : tie.Need-mul-marks
-mul-marks c = let f = c .before .failed-of .ensures in let w = failed-below (c .before .before .before .before .before .before .pre .0) (c .before .before .before .before .before .before .pre .1 .0) in omega arith
+mul-marks c =
+    let held = c .before .before .before .before .before .before .pre .0 in
+    let two = c .before .before .before .before .before .before .pre .1 .0 in
+    let is-failed = c .before .failed-of .ensures in
+    let low-failed = failed-below held two in
+    omega (arith, is-failed, low-failed)
 
 slice-write-marks : tie.Need-slice-write-marks
-slice-write-marks c = let f = c .before .failed-of .ensures in let w = failed-below (c .before .before .before .before .before .before .pre .0) (c .before .before .before .before .before .before .pre .1 .0) in omega arith
+slice-write-marks c =
+    let held = c .before .before .before .before .before .before .pre .0 in
+    let two = c .before .before .before .before .before .before .pre .1 .0 in
+    let is-failed = c .before .failed-of .ensures in
+    let low-failed = failed-below held two in
+    omega (arith, is-failed, low-failed)
 
 mul-marks-2 : tie.Need-mul-marks-2
-mul-marks-2 c = let s = c .sound-of .ensures in let v = sound-below (c .before .before .before .before .before .before .pre .0) (c .before .before .before .before .before .before .pre .1 .0) in omega arith
+mul-marks-2 c =
+    let held = c .before .before .before .before .before .before .pre .0 in
+    let two = c .before .before .before .before .before .before .pre .1 .0 in
+    let is-sound = c .sound-of .ensures in
+    let low-sound = sound-below held two in
+    omega (arith, is-sound, low-sound)
 
 slice-write-marks-2 : tie.Need-slice-write-marks-2
-slice-write-marks-2 c = let s = c .sound-of .ensures in let v = sound-below (c .before .before .before .before .before .before .pre .0) (c .before .before .before .before .before .before .pre .1 .0) in simp length-set (omega arith)
+slice-write-marks-2 c =
+    let held = c .before .before .before .before .before .before .pre .0 in
+    let two = c .before .before .before .before .before .before .pre .1 .0 in
+    let is-sound = c .sound-of .ensures in
+    let low-sound = sound-below held two in
+    simp length-set (omega (arith, is-sound, low-sound))
 
 same-length : tie.Need-same-length
 same-length c = search needs
 
 returns-2 : tie.Need-returns-2
-returns-2 c = let f = c .before .failed-of .ensures in let w = failed-below (c .before .before .before .before .before .before .pre .0) (c .before .before .before .before .before .before .pre .1 .0) in let s = c .sound-of .ensures in let v = sound-below (c .before .before .before .before .before .before .pre .0) (c .before .before .before .before .before .before .pre .1 .0) in spread-both (c .before .before .before .before .before .before .args .marks .now) (c .before .before .if1 .left) (c .before .failed-of .ensures) (c .sound-of .ensures) (omega arith) (omega arith)
+returns-2 c =
+    let held = c .before .before .before .before .before .before .pre .0 in
+    let two = c .before .before .before .before .before .before .pre .1 .0 in
+    let marks = c .before .before .before .before .before .before .args .marks .now in
+    let is-failed = c .before .failed-of .ensures in
+    let low-failed = failed-below held two in
+    let is-sound = c .sound-of .ensures in
+    let low-sound = sound-below held two in
+    spread-both marks (c .before .before .if1 .left) is-failed is-sound (omega (arith, is-failed, low-failed)) (omega (arith, is-sound, low-sound))
 
 pub mark-branches-spec : {M : Type 1} → statement M
-mark-branches-spec = tie.close (tie.spec mul-if1 slice-read-if1 returns failed-of-requires sound-of-requires mul-marks slice-write-marks mul-marks-2 slice-write-marks-2 same-length returns-2)
+mark-branches-spec = tie.close (tie.spec
+    mul-if1
+    slice-read-if1
+    returns
+    failed-of-requires
+    sound-of-requires
+    mul-marks
+    slice-write-marks
+    mul-marks-2
+    slice-write-marks-2
+    same-length
+    returns-2)

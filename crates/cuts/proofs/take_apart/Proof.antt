@@ -54,7 +54,13 @@ shared-slice-read-t24 : tie.Need-shared-slice-read-t24
 shared-slice-read-t24 c = search needs
 
 returns : tie.Need-returns
-returns c = part-earlier ((c .before .before .before .before .before .pre) .0) ((c .before .before .before .before .before .pre) .1 .0) ((c .before .before .before .before .before .pre) .1 .1 .0) ((c .before .before .before .before .before .pre) .1 .1 .1 .0) ((c .before .before .before .before .before .pre) .1 .1 .1 .1) (c .before .before .if1 .taken)
+returns c =
+    let store = c .before .before .before .before .before .pre .0 in
+    let family = c .before .before .before .before .before .pre .1 .0 in
+    let function = c .before .before .before .before .before .pre .1 .1 .0 in
+    let f-node = c .before .before .before .before .before .pre .1 .1 .1 .0 in
+    let g-node = c .before .before .before .before .before .pre .1 .1 .1 .1 in
+    part-earlier store family function f-node g-node (c .before .before .if1 .taken)
 
 add-t25 : tie.Need-add-t25
 add-t25 c = search needs
@@ -66,7 +72,13 @@ shared-slice-read-t28 : tie.Need-shared-slice-read-t28
 shared-slice-read-t28 c = search needs
 
 returns-2 : tie.Need-returns-2
-returns-2 c = part-later ((c .before .before .before .before .before .pre) .0) ((c .before .before .before .before .before .pre) .1 .0) ((c .before .before .before .before .before .pre) .1 .1 .0) ((c .before .before .before .before .before .pre) .1 .1 .1 .0) ((c .before .before .before .before .before .pre) .1 .1 .1 .1) (c .before .if2 .taken)
+returns-2 c =
+    let store = c .before .before .before .before .before .pre .0 in
+    let family = c .before .before .before .before .before .pre .1 .0 in
+    let function = c .before .before .before .before .before .pre .1 .1 .0 in
+    let f-node = c .before .before .before .before .before .pre .1 .1 .1 .0 in
+    let g-node = c .before .before .before .before .before .pre .1 .1 .1 .1 in
+    part-later store family function f-node g-node (c .before .if2 .taken)
 
 add-t13 : tie.Need-add-t13
 add-t13 c = search needs
@@ -105,7 +117,47 @@ shared-slice-read-t42 : tie.Need-shared-slice-read-t42
 shared-slice-read-t42 c = search needs
 
 returns-3 : tie.Need-returns-3
-returns-3 c = part-equal ((c .before .before .before .before .before .before .before .before .pre) .0) ((c .before .before .before .before .before .before .before .before .pre) .1 .0) ((c .before .before .before .before .before .before .before .before .pre) .1 .1 .0) ((c .before .before .before .before .before .before .before .before .pre) .1 .1 .1 .0) ((c .before .before .before .before .before .before .before .before .pre) .1 .1 .1 .1) (c .before .before .before .before .if2 .left) (c .before .before .before .before .before .if1 .left)
+returns-3 c =
+    let store = c .before .before .before .before .before .before .before .before .pre .0 in
+    let family = c .before .before .before .before .before .before .before .before .pre .1 .0 in
+    let function = c .before .before .before .before .before .before .before .before .pre .1 .1 .0 in
+    let f-node = c .before .before .before .before .before .before .before .before .pre .1 .1 .1 .0 in
+    let g-node = c .before .before .before .before .before .before .before .before .pre .1 .1 .1 .1 in
+    part-equal store family function f-node g-node (c .before .before .before .before .if2 .left) (c .before .before .before .before .before .if1 .left)
 
 pub take-apart-spec : {M : Type 1} → statement M
-take-apart-spec = tie.close (tie.spec sub-i cast-i mul-i sub-j cast-j mul-j mul-x shared-slice-read-x mul-y shared-slice-read-y add-t17 mul-t18 shared-slice-read-t20 add-t21 mul-t22 shared-slice-read-t24 returns add-t25 mul-t26 shared-slice-read-t28 returns-2 add-t13 mul-t29 shared-slice-read-t12 add-t31 mul-t32 shared-slice-read-t34 add-t35 mul-t36 shared-slice-read-t38 add-t39 mul-t40 shared-slice-read-t42 returns-3)
+take-apart-spec = tie.close (tie.spec
+    sub-i
+    cast-i
+    mul-i
+    sub-j
+    cast-j
+    mul-j
+    mul-x
+    shared-slice-read-x
+    mul-y
+    shared-slice-read-y
+    add-t17
+    mul-t18
+    shared-slice-read-t20
+    add-t21
+    mul-t22
+    shared-slice-read-t24
+    returns
+    add-t25
+    mul-t26
+    shared-slice-read-t28
+    returns-2
+    add-t13
+    mul-t29
+    shared-slice-read-t12
+    add-t31
+    mul-t32
+    shared-slice-read-t34
+    add-t35
+    mul-t36
+    shared-slice-read-t38
+    add-t39
+    mul-t40
+    shared-slice-read-t42
+    returns-3)

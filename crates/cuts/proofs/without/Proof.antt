@@ -14,13 +14,17 @@ enum-known-at : tie.Need-enum-known-at
 enum-known-at c = search needs
 
 without-nodes-requires : tie.Need-without-nodes-requires
-without-nodes-requires c κs = (c .before .before .before .before .before .before .before .before .before .before .before .before .before .before .pre, rw (c .before .before .before .before .before .at .given .1) at (c .before .before .before .before .before .before .before .ask .ensures))
+without-nodes-requires c κs =
+    let ready = c .before .before .before .before .before .before .before .before .before .before .before .before .before .before .pre in
+    (ready, rw (c .before .before .before .before .before .at .given .1) at (c .before .before .before .before .before .before .before .ask .ensures))
 
 same-length : tie.Need-same-length
 same-length c = search needs
 
 returns : tie.Need-returns
-returns c = taken-here (c .before .before .before .before .before .before .before .before .before .before .pre) (rw (c .before .r .given .1) at (c .before .before .before .ask .ensures))
+returns c =
+    let ready = c .before .before .before .before .before .before .before .before .before .before .pre in
+    taken-here ready (rw (c .before .r .given .1) at (c .before .before .before .ask .ensures))
 
 same-length-2 : tie.Need-same-length-2
 same-length-2 c = search needs
@@ -38,4 +42,15 @@ returns-2 : tie.Need-returns-2
 returns-2 c = c .before .before .before .before .before .before .before .before .without-nodes .ensures
 
 pub without-spec : {M : Type 1} → statement M
-without-spec = tie.close (tie.spec ask-requires enum-known-r enum-known-at without-nodes-requires same-length returns same-length-2 same-length-3 same-length-4 same-length-5 returns-2)
+without-spec = tie.close (tie.spec
+    ask-requires
+    enum-known-r
+    enum-known-at
+    without-nodes-requires
+    same-length
+    returns
+    same-length-2
+    same-length-3
+    same-length-4
+    same-length-5
+    returns-2)

@@ -67,11 +67,14 @@ loop-again c = run-more (c .before .before .before .before .before .before .befo
 last-set-requires-2 : tie.Need-last-set-requires-2 Inv-loop μ-loop
 last-set-requires-2 c κs = run-inside (c .before .before .loop .inv)
 
+done-requires : tie.Need-done-requires Inv-loop μ-loop
+done-requires c κs = search needs
+
 same-length-2 : tie.Need-same-length-2 Inv-loop μ-loop
-same-length-2 c = run-long (c .before .before .before .loop .inv)
+same-length-2 c = run-long (c .before .before .before .before .loop .inv)
 
 returns-2 : tie.Need-returns-2 Inv-loop μ-loop
-returns-2 c = run-end (c .before .before .before .loop .inv) (c .before .before .loop-test .left) (c .last-set2 .ensures)
+returns-2 c = run-end (c .before .before .before .before .loop .inv) (c .before .before .before .loop-test .left) (c .before .last-set2 .ensures) (c .done .ensures)
 
 pub list-cuts-spec : {M : Type 1} → statement M
 list-cuts-spec =
@@ -96,5 +99,6 @@ list-cuts-spec =
     loop-less
     loop-again
     last-set-requires-2
+    done-requires
     same-length-2
     returns-2)

@@ -1,12 +1,10 @@
-use mathlib.Core.Path.{_≡_, refl, sym, ap, _∙_}
-use Rattle.records.specs.Judge.{start, refuse}
-use Rattle.records.specs.Memory.{pad, memory, inMemory}
+-- `records::empty` meets its contract.
+-- Assumes nothing.
+use mathlib.Core.Path.{refl}
+use Rattle.records.specs.Memory.{pad, memory}
 use Rattle.records.proofs.empty.Statement.{statement}
 use Rattle.records.proofs.empty.Tie as tie
-use Rattle.records.proofs.empty.Reads as reads
-use Rattle.records.proofs.empty.Lts as lts
 
--- src/lib.rt:331:1
 returns : tie.Need-returns
 unfolding memory pad
 returns c = refl

@@ -1,35 +1,27 @@
-use mathlib.Core.Path.{_≡_, refl, sym, ap, _∙_}
+-- `records::finish` meets its contract.
+-- Assumes nothing.
+use mathlib.Core.Path.{sym, ap, _∙_}
 use Rattle.records.specs.Memory.{inMemory}
 use Rattle.records.proofs.Closing.{closes-at, closes-done}
 use borrow.Author.Needs.{needs}
 use Rattle.records.proofs.finish.Statement.{statement}
 use Rattle.records.proofs.finish.Tie as tie
-use Rattle.records.proofs.finish.Reads as reads
-use Rattle.records.proofs.finish.Lts as lts
-use Rattle.records.proofs.refused.Reads as refused-reads
-use Rattle.records.proofs.uses.unused_in.Reads as unused-in-reads
 
--- src/lib.rt:107:11
 unused-in-requires : tie.Need-unused-in-requires
 unused-in-requires c κs = search needs
 
--- src/lib.rt:108:19
 enum-known-place : tie.Need-enum-known-place
 enum-known-place c = search needs
 
--- src/lib.rt:108:29
 refused-requires : tie.Need-refused-requires
 refused-requires c κs = search needs
 
--- src/lib.rt:110:17
 enum-told : tie.Need-enum-told
 enum-told c = search needs
 
--- src/lib.rt:101:1
 returns : tie.Need-returns
 returns c = λ b h f e. c .refused .ensures ∙ ap inMemory (sym (closes-at b (sym (c .before .before .place .given .1) ∙ c .before .before .before .before .unused-in .ensures b f e)))
 
--- src/lib.rt:101:1
 returns-2 : tie.Need-returns-2
 returns-2 c = λ b h f e. closes-done h e (sym (c .enum-told .given .1) ∙ c .before .before .unused-in .ensures b f e)
 

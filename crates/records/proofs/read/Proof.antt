@@ -1,5 +1,7 @@
-use mathlib.Core.Path.{_≡_, refl, sym, ap, _∙_}
-use Prim.Native.Nat.{ℕ, _+_, _-_, _≤_, _<_}
+-- `records::read` meets its contract.
+-- Assumes nothing.
+use mathlib.Core.Path.{sym, ap, _∙_}
+use Prim.Native.Nat.{_-_}
 use native.Mathlib.Omega.{arith}
 use denote.Ref.{now}
 use lib.ListN.{length}
@@ -10,16 +12,6 @@ use Rattle.records.proofs.Standing.{Standing, standing-start, standing-
 use borrow.Author.Needs.{needs}
 use Rattle.records.proofs.read.Statement.{statement}
 use Rattle.records.proofs.read.Tie as tie
-use Rattle.records.proofs.read.Reads as reads
-use Rattle.records.proofs.read.Lts as lts
-use Rattle.records.proofs.empty.Reads as empty-reads
-use Rattle.records.proofs.finish.Reads as finish-reads
-use Rattle.records.proofs.judge.begin.Reads as begin-reads
-use Rattle.records.proofs.judge.next.Reads as next-reads
-use Rattle.records.proofs.judge.past_event.Reads as past-event-reads
-use Rattle.records.proofs.judge.past_gate.Reads as past-gate-reads
-use Rattle.records.proofs.judge.past_input.Reads as past-input-reads
-use Rattle.records.proofs.refused.Reads as refused-reads
 
 abbrev Inv-loop : tie.InvT-loop
 Inv-loop bytes t₀ places₀ s₀ t places s = Standing bytes t places s
@@ -27,128 +19,97 @@ Inv-loop bytes t₀ places₀ s₀ t places s = Standing bytes t places s
 abbrev μ-loop : tie.MeasureT-loop
 μ-loop bytes t₀ places₀ s₀ t places s = length bytes - s .at
 
--- src/lib.rt:126:17
 empty-requires : tie.Need-empty-requires Inv-loop μ-loop
 empty-requires c κs = search needs
 
--- src/lib.rt:128:9
 begin-requires : tie.Need-begin-requires Inv-loop μ-loop
 begin-requires c κs = search needs
 
--- src/lib.rt:129:5
 loop-holds : tie.Need-loop-holds Inv-loop μ-loop
 unfolding pad
 loop-holds c = rw (c .before .empty .ensures, c .begin .ensures) (standing-start (now (c .before .before .before .args .bytes)))
 
--- src/lib.rt:133:15
 next-requires : tie.Need-next-requires Inv-loop μ-loop
 next-requires c κs = (running-bounded (c .loop .inv .running), c .loop .inv .running .within)
 
--- src/lib.rt:134:28
 enum-known-chance : tie.Need-enum-known-chance Inv-loop μ-loop
 enum-known-chance c = search needs
 
--- src/lib.rt:136:17
 mul-e : tie.Need-mul-e Inv-loop μ-loop
 mul-e c = omega (arith, running-bounded (c .before .before .before .before .loop .inv .running))
 
--- src/lib.rt:136:17
 element-set-from-e : tie.Need-element-set-from-e Inv-loop μ-loop
 element-set-from-e c = omega (arith, running-sound (c .before .before .before .before .loop .inv .running) (sym (c .before .chance .given .1) ∙ c .before .before .before .next .ensures))
 
--- src/lib.rt:137:17
 past-event-requires : tie.Need-past-event-requires Inv-loop μ-loop
 past-event-requires c κs = running-bounded (c .before .before .before .before .loop .inv .running)
 
--- src/lib.rt:129:5
 loop-less : tie.Need-loop-less Inv-loop μ-loop
 loop-less c = rw (c .past-event .ensures) (omega (arith, running-sound (c .before .before .before .before .before .loop .inv .running) (sym (c .before .before .chance .given .1) ∙ c .before .before .before .before .next .ensures)))
 
--- src/lib.rt:129:5
 loop-again : tie.Need-loop-again Inv-loop μ-loop
 loop-again c = rw (c .past-event .ensures) (standing-event (c .before .before .before .before .before .loop .inv) _ _ (sym (c .before .before .chance .given .1) ∙ c .before .before .before .before .next .ensures))
 
--- src/lib.rt:139:27
 enum-known-kind : tie.Need-enum-known-kind Inv-loop μ-loop
 enum-known-kind c = search needs
 
--- src/lib.rt:140:17
 element-write-t : tie.Need-element-write-t Inv-loop μ-loop
 element-write-t c = omega (arith, running-sound (c .before .before .before .before .loop .inv .running) (sym (c .before .kind .given .1) ∙ c .before .before .before .next .ensures))
 
--- src/lib.rt:141:17
 element-write-t-2 : tie.Need-element-write-t-2 Inv-loop μ-loop
 element-write-t-2 c = omega (arith, running-sound (c .before .before .before .before .loop .inv .running) (sym (c .before .kind .given .1) ∙ c .before .before .before .next .ensures))
 
--- src/lib.rt:142:17
 element-write-t-3 : tie.Need-element-write-t-3 Inv-loop μ-loop
 element-write-t-3 c = omega (arith, running-sound (c .before .before .before .before .loop .inv .running) (sym (c .before .kind .given .1) ∙ c .before .before .before .next .ensures))
 
--- src/lib.rt:143:17
 mul-places : tie.Need-mul-places Inv-loop μ-loop
 mul-places c = omega (arith, running-bounded (c .before .before .before .before .loop .inv .running))
 
--- src/lib.rt:143:17
 array-write-places : tie.Need-array-write-places Inv-loop μ-loop
 array-write-places c = omega (arith, running-sound (c .before .before .before .before .loop .inv .running) (sym (c .before .kind .given .1) ∙ c .before .before .before .next .ensures))
 
--- src/lib.rt:144:17
 past-gate-requires : tie.Need-past-gate-requires Inv-loop μ-loop
 past-gate-requires c κs = running-bounded (c .before .before .before .before .loop .inv .running)
 
--- src/lib.rt:129:5
 loop-less-2 : tie.Need-loop-less-2 Inv-loop μ-loop
 loop-less-2 c = rw (c .past-gate .ensures) (omega (arith, running-sound (c .before .before .before .before .before .loop .inv .running) (sym (c .before .before .kind .given .1) ∙ c .before .before .before .before .next .ensures)))
 
--- src/lib.rt:129:5
 loop-again-2 : tie.Need-loop-again-2 Inv-loop μ-loop
 loop-again-2 c = rw (c .past-gate .ensures) (standing-gate (c .before .before .before .before .before .loop .inv) _ _ _ _ (sym (c .before .before .kind .given .1) ∙ c .before .before .before .before .next .ensures))
 
--- src/lib.rt:146:28
 enum-known-code : tie.Need-enum-known-code Inv-loop μ-loop
 enum-known-code c = search needs
 
--- src/lib.rt:147:17
 mul-t : tie.Need-mul-t Inv-loop μ-loop
 mul-t c = omega (arith, running-bounded (c .before .before .before .before .loop .inv .running))
 
--- src/lib.rt:147:17
 element-write-t-4 : tie.Need-element-write-t-4 Inv-loop μ-loop
 element-write-t-4 c = omega (arith, running-sound (c .before .before .before .before .loop .inv .running) (sym (c .before .code .given .1) ∙ c .before .before .before .next .ensures), running-bounded (c .before .before .before .before .loop .inv .running))
 
--- src/lib.rt:148:17
 past-input-requires : tie.Need-past-input-requires Inv-loop μ-loop
 past-input-requires c κs = (running-bounded (c .before .before .before .before .loop .inv .running), running-sound (c .before .before .before .before .loop .inv .running) (sym (c .before .code .given .1) ∙ c .before .before .before .next .ensures) .some)
 
--- src/lib.rt:129:5
 loop-less-3 : tie.Need-loop-less-3 Inv-loop μ-loop
 loop-less-3 c = rw (c .past-input .ensures) (omega (arith, running-sound (c .before .before .before .before .before .loop .inv .running) (sym (c .before .before .code .given .1) ∙ c .before .before .before .before .next .ensures)))
 
--- src/lib.rt:129:5
 loop-again-3 : tie.Need-loop-again-3 Inv-loop μ-loop
 loop-again-3 c = rw (c .past-input .ensures) (standing-input (c .before .before .before .before .before .loop .inv) _ _ (sym (c .before .before .code .given .1) ∙ c .before .before .before .before .next .ensures))
 
--- src/lib.rt:150:42
 enum-told : tie.Need-enum-told Inv-loop μ-loop
 enum-told c = search needs
 
--- src/lib.rt:150:28
 finish-requires : tie.Need-finish-requires Inv-loop μ-loop
 finish-requires c κs = let k = running-sound (c .before .before .before .loop .inv .running) (sym (c .enum-told .given .1) ∙ c .before .before .next .ensures) in let q = c .before .before .before .loop .inv .running .state in (c .before .before .before .loop .inv .running .book, held-fronts (c .before .before .before .loop .inv .held) (c .before .before .before .loop .inv .running .kept), q, rw q at (k .someGate), rw q at (k .none))
 
--- src/lib.rt:150:28
 returns : tie.Need-returns Inv-loop μ-loop
 returns c = with-verdict _ (c .finish .ensures (c .before .before .before .before .loop .inv .running .book) (c .before .before .before .before .loop .inv .held) (held-fronts (c .before .before .before .before .loop .inv .held) (c .before .before .before .before .loop .inv .running .kept)) (c .before .before .before .before .loop .inv .running .state) ∙ ap inMemory (sym (running-close (c .before .before .before .before .loop .inv .running) (sym (c .before .enum-told .given .1) ∙ c .before .before .before .next .ensures))))
 
--- src/lib.rt:151:27
 enum-known-a : tie.Need-enum-known-a Inv-loop μ-loop
 enum-known-a c = search needs
 
--- src/lib.rt:151:33
 refused-requires : tie.Need-refused-requires Inv-loop μ-loop
 refused-requires c κs = search needs
 
--- src/lib.rt:151:33
 returns-2 : tie.Need-returns-2 Inv-loop μ-loop
 returns-2 c = with-verdict _ (c .refused .ensures ∙ ap inMemory (sym (running-refused (c .before .before .before .before .before .loop .inv .running) _ (sym (c .before .before .a .given .1) ∙ c .before .before .before .before .next .ensures))))
 

@@ -1,5 +1,7 @@
-use mathlib.Core.Path.{_≡_, refl, sym, ap, _∙_}
-use Prim.Native.Nat.{ℕ, _+_, _-_, _≤_, _<_}
+-- `records::emission::emit` meets its contract.
+-- Assumes nothing.
+use mathlib.Core.Path.{sym, _∙_}
+use Prim.Native.Nat.{_-_}
 use native.Mathlib.Omega.{arith}
 use denote.Ref.{now}
 use lib.ListN.{length}
@@ -11,17 +13,6 @@ use Rattle.records.proofs.Emitting.{Emitting, emit-start, emit-inside, 
 use borrow.Author.Needs.{needs}
 use Rattle.records.proofs.emission.emit.Statement.{statement}
 use Rattle.records.proofs.emission.emit.Tie as tie
-use Rattle.records.proofs.emission.emit.Reads as reads
-use Rattle.records.proofs.emission.emit.Lts as lts
-use Rattle.records.proofs.format.put.Reads as put-reads
-use Rattle.records.proofs.format.width.Reads as width-reads
-use Rattle.records.proofs.judge.admit.Reads as admit-reads
-use Rattle.records.proofs.judge.begin.Reads as begin-reads
-use Rattle.records.proofs.judge.past_event.Reads as past-event-reads
-use Rattle.records.proofs.judge.past_gate.Reads as past-gate-reads
-use Rattle.records.proofs.judge.past_input.Reads as past-input-reads
-use Rattle.records.proofs.survey.tree_record.Reads as tree-record-reads
-use Rattle.records.proofs.survey.within.Reads as within-reads
 
 abbrev Inv-loop : tie.InvT-loop
 Inv-loop room₀ t s₀ room s = Emitting t room₀ room s
@@ -29,127 +20,96 @@ Inv-loop room₀ t s₀ room s = Emitting t room₀ room s
 abbrev μ-loop : tie.MeasureT-loop
 μ-loop room₀ t s₀ room s = length (bytesOf t) - s .at
 
--- src/emission.rt:25:9
 begin-requires : tie.Need-begin-requires Inv-loop μ-loop
 begin-requires c κs = search needs
 
--- src/emission.rt:26:5
 loop-holds : tie.Need-loop-holds Inv-loop μ-loop
 loop-holds c = rw (c .begin .ensures) (emit-start (c .before .before .args .t1) (now (c .before .before .args .room)) (c .before .before .pre .1))
 
--- src/emission.rt:28:13
 within-requires : tie.Need-within-requires Inv-loop μ-loop
 within-requires c κs = search needs
 
--- src/emission.rt:29:17
 mul-e : tie.Need-mul-e Inv-loop μ-loop
 mul-e c = omega (arith, c .within .ensures .inside)
 
--- src/emission.rt:29:17
 element-copy-out-e : tie.Need-element-copy-out-e Inv-loop μ-loop
 element-copy-out-e c = c .within .ensures .inside
 
--- src/emission.rt:30:13
 tree-record-requires : tie.Need-tree-record-requires Inv-loop μ-loop
 tree-record-requires c κs = running-bounded (c .before .before .before .before .before .before .before .loop .inv .running)
 
--- src/emission.rt:40:13
 sub-put : tie.Need-sub-put Inv-loop μ-loop
 sub-put c = emit-inside (c .before .before .before .before .before .before .before .before .loop .inv)
 
--- src/emission.rt:40:13
 part-put-start : tie.Need-part-put-start Inv-loop μ-loop
 part-put-start c = emit-inside (c .before .before .before .before .before .before .before .before .loop .inv)
 
--- src/emission.rt:40:13
 part-put-end : tie.Need-part-put-end Inv-loop μ-loop
 part-put-end c = omega (arith, emit-inside (c .before .before .before .before .before .before .before .before .loop .inv))
 
--- src/emission.rt:40:9
 put-requires : tie.Need-put-requires Inv-loop μ-loop
 put-requires c κs = emit-room (c .before .before .before .before .before .before .before .before .before .loop .inv) (next-is (c .before .before .before .before .before .before .before .before .before .loop .inv .following) (c .before .before .before .before .before .before .before .before .within .ensures) (c .before .tree-record .ensures .0))
 
--- src/emission.rt:41:29
 width-requires : tie.Need-width-requires Inv-loop μ-loop
 width-requires c κs = search needs
 
--- src/emission.rt:41:24
 add-admit : tie.Need-add-admit Inv-loop μ-loop
 add-admit c = omega (arith, width-small (c .before .before .before .before .before .tree-record .result), c .width .ensures, c .before .before .before .before .before .before .before .before .before .before .before .before .before .loop .inv .following .low, running-bounded (c .before .before .before .before .before .before .before .before .before .before .before .before .before .loop .inv .running))
 
--- src/emission.rt:41:15
 admit-requires : tie.Need-admit-requires Inv-loop μ-loop
 admit-requires c κs = (running-bounded (c .before .before .before .before .before .before .before .before .before .before .before .before .before .loop .inv .running), omega (arith, c .width .ensures))
 
--- src/emission.rt:42:31
 enum-known-after : tie.Need-enum-known-after Inv-loop μ-loop
 enum-known-after c = search needs
 
--- src/emission.rt:42:41
 past-event-requires : tie.Need-past-event-requires Inv-loop μ-loop
 past-event-requires c κs = running-bounded (c .before .before .before .before .before .before .before .before .before .before .before .before .before .before .before .before .before .loop .inv .running)
 
--- src/emission.rt:26:5
 loop-less : tie.Need-loop-less Inv-loop μ-loop
 loop-less c = rw (c .past-event .ensures) (omega (arith, emit-sound (c .before .before .before .before .before .before .before .before .before .before .before .before .before .before .before .before .before .before .loop .inv) (next-is (c .before .before .before .before .before .before .before .before .before .before .before .before .before .before .before .before .before .before .loop .inv .following) (c .before .before .before .before .before .before .before .before .before .before .before .before .before .before .before .before .before .within .ensures) (c .before .before .before .before .before .before .before .before .before .before .tree-record .ensures .0)) (c .before .before .before .before .before .before .before .before .before .before .tree-record .ensures .1) (c .before .before .before .before .before .before .before .before .put .ensures) (sym (c .before .before .after .given .1) ∙ (rw (c .before .before .before .before .before .width .ensures) at (c .before .before .before .before .admit .ensures)))))
 
--- src/emission.rt:26:5
 loop-again : tie.Need-loop-again Inv-loop μ-loop
 loop-again c = rw (c .past-event .ensures) (emit-event (c .before .before .before .before .before .before .before .before .before .before .before .before .before .before .before .before .before .before .loop .inv) (next-is (c .before .before .before .before .before .before .before .before .before .before .before .before .before .before .before .before .before .before .loop .inv .following) (c .before .before .before .before .before .before .before .before .before .before .before .before .before .before .before .before .before .within .ensures) (c .before .before .before .before .before .before .before .before .before .before .tree-record .ensures .0)) (c .before .before .before .before .before .before .before .before .before .before .tree-record .ensures .1) (c .before .before .before .before .before .before .before .before .put .ensures) _ _ (sym (c .before .before .after .given .1) ∙ (rw (c .before .before .before .before .before .width .ensures) at (c .before .before .before .before .admit .ensures))))
 
--- src/emission.rt:43:33
 enum-known-size : tie.Need-enum-known-size Inv-loop μ-loop
 enum-known-size c = search needs
 
--- src/emission.rt:43:49
 past-gate-requires : tie.Need-past-gate-requires Inv-loop μ-loop
 past-gate-requires c κs = running-bounded (c .before .before .before .before .before .before .before .before .before .before .before .before .before .before .before .before .before .loop .inv .running)
 
--- src/emission.rt:26:5
 loop-less-2 : tie.Need-loop-less-2 Inv-loop μ-loop
 loop-less-2 c = rw (c .past-gate .ensures) (omega (arith, emit-sound (c .before .before .before .before .before .before .before .before .before .before .before .before .before .before .before .before .before .before .loop .inv) (next-is (c .before .before .before .before .before .before .before .before .before .before .before .before .before .before .before .before .before .before .loop .inv .following) (c .before .before .before .before .before .before .before .before .before .before .before .before .before .before .before .before .before .within .ensures) (c .before .before .before .before .before .before .before .before .before .before .tree-record .ensures .0)) (c .before .before .before .before .before .before .before .before .before .before .tree-record .ensures .1) (c .before .before .before .before .before .before .before .before .put .ensures) (sym (c .before .before .size .given .1) ∙ (rw (c .before .before .before .before .before .width .ensures) at (c .before .before .before .before .admit .ensures)))))
 
--- src/emission.rt:26:5
 loop-again-2 : tie.Need-loop-again-2 Inv-loop μ-loop
 loop-again-2 c = rw (c .past-gate .ensures) (emit-gate (c .before .before .before .before .before .before .before .before .before .before .before .before .before .before .before .before .before .before .loop .inv) (next-is (c .before .before .before .before .before .before .before .before .before .before .before .before .before .before .before .before .before .before .loop .inv .following) (c .before .before .before .before .before .before .before .before .before .before .before .before .before .before .before .before .before .within .ensures) (c .before .before .before .before .before .before .before .before .before .before .tree-record .ensures .0)) (c .before .before .before .before .before .before .before .before .before .before .tree-record .ensures .1) (c .before .before .before .before .before .before .before .before .put .ensures) _ _ _ _ (sym (c .before .before .size .given .1) ∙ (rw (c .before .before .before .before .before .width .ensures) at (c .before .before .before .before .admit .ensures))))
 
--- src/emission.rt:44:31
 enum-known-after-2 : tie.Need-enum-known-after-2 Inv-loop μ-loop
 enum-known-after-2 c = search needs
 
--- src/emission.rt:44:41
 past-input-requires : tie.Need-past-input-requires Inv-loop μ-loop
 past-input-requires c κs = (running-bounded (c .before .before .before .before .before .before .before .before .before .before .before .before .before .before .before .before .before .loop .inv .running), emit-sound (c .before .before .before .before .before .before .before .before .before .before .before .before .before .before .before .before .before .loop .inv) (next-is (c .before .before .before .before .before .before .before .before .before .before .before .before .before .before .before .before .before .loop .inv .following) (c .before .before .before .before .before .before .before .before .before .before .before .before .before .before .before .before .within .ensures) (c .before .before .before .before .before .before .before .before .before .tree-record .ensures .0)) (c .before .before .before .before .before .before .before .before .before .tree-record .ensures .1) (c .before .before .before .before .before .before .before .put .ensures) (sym (c .before .after2 .given .1) ∙ (rw (c .before .before .before .before .width .ensures) at (c .before .before .before .admit .ensures))) .some)
 
--- src/emission.rt:26:5
 loop-less-3 : tie.Need-loop-less-3 Inv-loop μ-loop
 loop-less-3 c = rw (c .past-input .ensures) (omega (arith, emit-sound (c .before .before .before .before .before .before .before .before .before .before .before .before .before .before .before .before .before .before .loop .inv) (next-is (c .before .before .before .before .before .before .before .before .before .before .before .before .before .before .before .before .before .before .loop .inv .following) (c .before .before .before .before .before .before .before .before .before .before .before .before .before .before .before .before .before .within .ensures) (c .before .before .before .before .before .before .before .before .before .before .tree-record .ensures .0)) (c .before .before .before .before .before .before .before .before .before .before .tree-record .ensures .1) (c .before .before .before .before .before .before .before .before .put .ensures) (sym (c .before .before .after2 .given .1) ∙ (rw (c .before .before .before .before .before .width .ensures) at (c .before .before .before .before .admit .ensures)))))
 
--- src/emission.rt:26:5
 loop-again-3 : tie.Need-loop-again-3 Inv-loop μ-loop
 loop-again-3 c = rw (c .past-input .ensures) (emit-input (c .before .before .before .before .before .before .before .before .before .before .before .before .before .before .before .before .before .before .loop .inv) (next-is (c .before .before .before .before .before .before .before .before .before .before .before .before .before .before .before .before .before .before .loop .inv .following) (c .before .before .before .before .before .before .before .before .before .before .before .before .before .before .before .before .before .within .ensures) (c .before .before .before .before .before .before .before .before .before .before .tree-record .ensures .0)) (c .before .before .before .before .before .before .before .before .before .before .tree-record .ensures .1) (c .before .before .before .before .before .before .before .before .put .ensures) _ _ (sym (c .before .before .after2 .given .1) ∙ (rw (c .before .before .before .before .before .width .ensures) at (c .before .before .before .before .admit .ensures))))
 
--- src/emission.rt:46:17
 enum-told : tie.Need-enum-told Inv-loop μ-loop
 enum-told c = search needs
 
--- src/emission.rt:46:17
 same-length : tie.Need-same-length Inv-loop μ-loop
 same-length c = emit-same (c .before .before .before .before .before .before .before .before .before .before .before .before .before .before .before .before .loop .inv) (next-is (c .before .before .before .before .before .before .before .before .before .before .before .before .before .before .before .before .loop .inv .following) (c .before .before .before .before .before .before .before .before .before .before .before .before .before .before .before .within .ensures) (c .before .before .before .before .before .before .before .before .tree-record .ensures .0)) (c .before .before .before .before .before .before .before .before .tree-record .ensures .1) (c .before .before .before .before .before .before .put .ensures)
 
--- src/emission.rt:46:17
 returns : tie.Need-returns Inv-loop μ-loop
 returns c = emit-done (c .before .before .before .before .before .before .before .before .before .before .before .before .before .before .before .before .loop .inv) (next-is (c .before .before .before .before .before .before .before .before .before .before .before .before .before .before .before .before .loop .inv .following) (c .before .before .before .before .before .before .before .before .before .before .before .before .before .before .before .within .ensures) (c .before .before .before .before .before .before .before .before .tree-record .ensures .0)) (c .before .before .before .before .before .before .before .before .tree-record .ensures .1) (c .before .before .before .before .before .before .put .ensures) (sym (c .enum-told .given .1) ∙ (rw (c .before .before .before .width .ensures) at (c .before .before .admit .ensures)))
 
--- src/emission.rt:49:17
 enum-told-2 : tie.Need-enum-told-2 Inv-loop μ-loop
 enum-told-2 c = search needs
 
--- src/emission.rt:49:17
 same-length-2 : tie.Need-same-length-2 Inv-loop μ-loop
 same-length-2 c = emit-same (c .before .before .before .before .before .before .before .before .before .before .before .before .before .before .before .before .loop .inv) (next-is (c .before .before .before .before .before .before .before .before .before .before .before .before .before .before .before .before .loop .inv .following) (c .before .before .before .before .before .before .before .before .before .before .before .before .before .before .before .within .ensures) (c .before .before .before .before .before .before .before .before .tree-record .ensures .0)) (c .before .before .before .before .before .before .before .before .tree-record .ensures .1) (c .before .before .before .before .before .before .put .ensures)
 
--- src/emission.rt:49:17
 returns-2 : tie.Need-returns-2 Inv-loop μ-loop
 returns-2 c = absurd (emit-never (c .before .before .before .before .before .before .before .before .before .before .before .before .before .before .before .before .loop .inv) (next-is (c .before .before .before .before .before .before .before .before .before .before .before .before .before .before .before .before .loop .inv .following) (c .before .before .before .before .before .before .before .before .before .before .before .before .before .before .before .within .ensures) (c .before .before .before .before .before .before .before .before .tree-record .ensures .0)) (c .before .before .before .before .before .before .before .before .tree-record .ensures .1) (c .before .before .before .before .before .before .put .ensures) (c .before .before .before .before .before .before .before .before .before .before .before .before .before .before .before .before .before .before .before .pre .0) _ (sym (c .enum-told2 .given .1) ∙ (rw (c .before .before .before .width .ensures) at (c .before .before .admit .ensures))))
 

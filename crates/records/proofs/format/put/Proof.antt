@@ -1,112 +1,86 @@
+-- `records::format::put` meets its contract.
+-- Assumes nothing.
 use denote.Ref.{now}
-use mathlib.Core.Path.{_≡_, refl, sym, ap, _∙_}
+use mathlib.Core.Path.{refl}
 use native.Mathlib.Omega.{arith}
 use lib.ListN.{length-set}
 use Rattle.records.proofs.Stores.{store-1, store-2, store-3, store-5}
 use borrow.Author.Needs.{needs}
 use Rattle.records.proofs.format.put.Statement.{statement}
 use Rattle.records.proofs.format.put.Tie as tie
-use Rattle.records.proofs.format.put.Reads as reads
-use Rattle.records.proofs.format.put.Lts as lts
-use Rattle.records.proofs.format.put_gate.Reads as put-gate-reads
 
--- src/format.rt:146:23
 enum-known-r : tie.Need-enum-known-r
 enum-known-r c = search needs
 
--- src/format.rt:147:13
 slice-write-b : tie.Need-slice-write-b
 slice-write-b c = omega (arith, rw (c .before .r .given .1) at (c .before .before .before .before .pre))
 
--- src/format.rt:148:20
 cast-b : tie.Need-cast-b
 cast-b c = search needs
 
--- src/format.rt:148:13
 slice-write-b-2 : tie.Need-slice-write-b-2
 slice-write-b-2 c = simp length-set (omega (arith, rw (c .before .r .given .1) at (c .before .before .before .before .pre)))
 
--- src/format.rt:149:20
 cast-b-2 : tie.Need-cast-b-2
 cast-b-2 c = search needs
 
--- src/format.rt:149:13
 slice-write-b-3 : tie.Need-slice-write-b-3
 slice-write-b-3 c = simp length-set (omega (arith, rw (c .before .r .given .1) at (c .before .before .before .before .pre)))
 
--- src/format.rt:150:20
 cast-b-3 : tie.Need-cast-b-3
 cast-b-3 c = search needs
 
--- src/format.rt:150:13
 slice-write-b-4 : tie.Need-slice-write-b-4
 slice-write-b-4 c = simp length-set (omega (arith, rw (c .before .r .given .1) at (c .before .before .before .before .pre)))
 
--- src/format.rt:151:20
 cast-b-4 : tie.Need-cast-b-4
 cast-b-4 c = search needs
 
--- src/format.rt:151:13
 slice-write-b-5 : tie.Need-slice-write-b-5
 slice-write-b-5 c = simp length-set (omega (arith, rw (c .before .r .given .1) at (c .before .before .before .before .pre)))
 
--- src/format.rt:153:22
 enum-known-r-2 : tie.Need-enum-known-r-2
 enum-known-r-2 c = search needs
 
--- src/format.rt:154:13
 put-gate-requires : tie.Need-put-gate-requires
 put-gate-requires c κs = rw (c .before .before .r2 .given .1) at (c .before .before .before .before .before .pre)
 
--- src/format.rt:156:28
 enum-known-r-3 : tie.Need-enum-known-r-3
 enum-known-r-3 c = search needs
 
--- src/format.rt:157:13
 slice-write-b-6 : tie.Need-slice-write-b-6
 slice-write-b-6 c = omega (arith, rw (c .before .r3 .given .1) at (c .before .before .before .before .pre))
 
--- src/format.rt:158:13
 slice-write-b-7 : tie.Need-slice-write-b-7
 slice-write-b-7 c = simp length-set (omega (arith, rw (c .before .r3 .given .1) at (c .before .before .before .before .pre)))
 
--- src/format.rt:160:27
 enum-known-r-4 : tie.Need-enum-known-r-4
 enum-known-r-4 c = search needs
 
--- src/format.rt:161:13
 slice-write-b-8 : tie.Need-slice-write-b-8
 slice-write-b-8 c = omega (arith, rw (c .before .r4 .given .1) at (c .before .before .before .before .pre))
 
--- src/format.rt:162:20
 cast-b-5 : tie.Need-cast-b-5
 cast-b-5 c = search needs
 
--- src/format.rt:162:13
 slice-write-b-9 : tie.Need-slice-write-b-9
 slice-write-b-9 c = simp length-set (omega (arith, rw (c .before .r4 .given .1) at (c .before .before .before .before .pre)))
 
--- src/format.rt:163:20
 cast-b-6 : tie.Need-cast-b-6
 cast-b-6 c = search needs
 
--- src/format.rt:163:13
 slice-write-b-10 : tie.Need-slice-write-b-10
 slice-write-b-10 c = simp length-set (omega (arith, rw (c .before .r4 .given .1) at (c .before .before .before .before .pre)))
 
--- src/format.rt:166:13
 enum-told : tie.Need-enum-told
 enum-told c = search needs
 
--- src/format.rt:166:13
 slice-write-b-11 : tie.Need-slice-write-b-11
 slice-write-b-11 c = omega (arith, rw (c .enum-told .given .1) at (c .before .before .before .pre))
 
--- src/format.rt:169:13
 enum-told-2 : tie.Need-enum-told-2
 enum-told-2 c = search needs
 
--- src/format.rt:169:13
 slice-write-b-12 : tie.Need-slice-write-b-12
 slice-write-b-12 c = omega (arith, rw (c .enum-told2 .given .1) at (c .before .before .before .pre))
 
@@ -116,59 +90,45 @@ enum-told-3 c = search needs
 enum-told-4 : tie.Need-enum-told-4
 enum-told-4 c = search needs
 
--- src/format.rt:141:1
 same-length : tie.Need-same-length
 same-length c = search needs
 
--- src/format.rt:141:1
 returns : tie.Need-returns
 returns c = rw (c .before .r .given .1) (store-5 (now (c .before .before .before .before .args .b)) _ _ _ _ _ (rw (c .before .r .given .1) at (c .before .before .before .before .pre)))
 
--- src/format.rt:141:1
 same-length-2 : tie.Need-same-length-2
 same-length-2 c = search needs
 
--- src/format.rt:141:1
 returns-2 : tie.Need-returns-2
 returns-2 c = rw (c .before .before .before .before .before .r2 .given .1) (c .before .before .put-gate .ensures)
 
--- src/format.rt:141:1
 same-length-3 : tie.Need-same-length-3
 same-length-3 c = search needs
 
--- src/format.rt:141:1
 returns-3 : tie.Need-returns-3
 returns-3 c = rw (c .before .r3 .given .1) (store-2 (now (c .before .before .before .before .args .b)) _ _ (rw (c .before .r3 .given .1) at (c .before .before .before .before .pre)))
 
--- src/format.rt:141:1
 same-length-4 : tie.Need-same-length-4
 same-length-4 c = search needs
 
--- src/format.rt:141:1
 returns-4 : tie.Need-returns-4
 returns-4 c = rw (c .before .r4 .given .1) (store-3 (now (c .before .before .before .before .args .b)) _ _ _ (rw (c .before .r4 .given .1) at (c .before .before .before .before .pre)))
 
--- src/format.rt:141:1
 same-length-5 : tie.Need-same-length-5
 same-length-5 c = search needs
 
--- src/format.rt:141:1
 returns-5 : tie.Need-returns-5
 returns-5 c = rw (c .enum-told .given .1) (store-1 (now (c .before .before .before .args .b)) _ (rw (c .enum-told .given .1) at (c .before .before .before .pre)))
 
--- src/format.rt:141:1
 same-length-6 : tie.Need-same-length-6
 same-length-6 c = search needs
 
--- src/format.rt:141:1
 returns-6 : tie.Need-returns-6
 returns-6 c = rw (c .enum-told2 .given .1) (store-1 (now (c .before .before .before .args .b)) _ (rw (c .enum-told2 .given .1) at (c .before .before .before .pre)))
 
--- src/format.rt:141:1
 returns-7 : tie.Need-returns-7
 returns-7 c = rw (c .enum-told3 .given .1) refl
 
--- src/format.rt:141:1
 returns-8 : tie.Need-returns-8
 returns-8 c = rw (c .enum-told4 .given .1) refl
 

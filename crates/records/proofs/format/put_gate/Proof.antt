@@ -1,5 +1,6 @@
+-- `records::format::put_gate` meets its contract.
+-- Assumes nothing.
 use denote.Ref.{now}
-use mathlib.Core.Path.{_≡_, refl, sym, ap, _∙_}
 use native.Mathlib.Omega.{arith}
 use lib.ListN.{length-set}
 use borrow.Author.Tests.{eq-eqb, ne-eqb}
@@ -7,42 +8,31 @@ use Rattle.records.proofs.Stores.{store-2, store-3}
 use borrow.Author.Needs.{needs}
 use Rattle.records.proofs.format.put_gate.Statement.{statement}
 use Rattle.records.proofs.format.put_gate.Tie as tie
-use Rattle.records.proofs.format.put_gate.Reads as reads
-use Rattle.records.proofs.format.put_gate.Lts as lts
 
--- src/format.rt:131:9
 slice-write-b : tie.Need-slice-write-b
 slice-write-b c = omega (arith, simp (eq-eqb _ _ (c .if1 .taken)) at (c .before .pre))
 
--- src/format.rt:132:9
 slice-write-b-2 : tie.Need-slice-write-b-2
 slice-write-b-2 c = simp length-set (omega (arith, simp (eq-eqb _ _ (c .if1 .taken)) at (c .before .pre)))
 
--- src/format.rt:133:9
 slice-write-b-3 : tie.Need-slice-write-b-3
 slice-write-b-3 c = simp length-set (omega (arith, simp (eq-eqb _ _ (c .if1 .taken)) at (c .before .pre)))
 
--- src/format.rt:134:9
 same-length : tie.Need-same-length
 same-length c = search needs
 
--- src/format.rt:134:9
 returns : tie.Need-returns
 returns c = simp (eq-eqb _ _ (c .if1 .taken)) (store-3 (now (c .before .args .b)) _ _ _ (simp (eq-eqb _ _ (c .if1 .taken)) at (c .before .pre)))
 
--- src/format.rt:136:5
 slice-write-b-4 : tie.Need-slice-write-b-4
 slice-write-b-4 c = omega (arith, simp (ne-eqb _ _ (c .if1 .left)) at (c .before .pre))
 
--- src/format.rt:137:5
 slice-write-b-5 : tie.Need-slice-write-b-5
 slice-write-b-5 c = simp length-set (omega (arith, simp (ne-eqb _ _ (c .if1 .left)) at (c .before .pre)))
 
--- src/format.rt:126:1
 same-length-2 : tie.Need-same-length-2
 same-length-2 c = search needs
 
--- src/format.rt:126:1
 returns-2 : tie.Need-returns-2
 returns-2 c = simp (ne-eqb _ _ (c .if1 .left)) (store-2 (now (c .before .args .b)) _ _ (simp (ne-eqb _ _ (c .if1 .left)) at (c .before .pre)))
 

@@ -1,101 +1,76 @@
-use mathlib.Core.Path.{_≡_, refl, sym, ap, _∙_}
-use borrow.Author.Tests.{eq-eqb, ne-eqb}
+-- `records::format::width` meets its contract.
+-- Assumes nothing.
+use borrow.Author.Tests.{ne-eqb}
 use borrow.Author.Needs.{needs}
 use Rattle.records.proofs.format.width.Statement.{statement}
 use Rattle.records.proofs.format.width.Tie as tie
-use Rattle.records.proofs.format.width.Reads as reads
-use Rattle.records.proofs.format.width.Lts as lts
-use Rattle.records.proofs.format.length.Reads as length-reads
 
--- src/format.rt:49:29
 enum-told : tie.Need-enum-told
 enum-told c = search needs
 
--- src/format.rt:49:29
 length-requires : tie.Need-length-requires
 length-requires c κs = search needs
 
--- src/format.rt:50:22
 enum-known-r : tie.Need-enum-known-r
 enum-known-r c = search needs
 
--- src/format.rt:52:17
 length-requires-2 : tie.Need-length-requires-2
 length-requires-2 c κs = search needs
 
--- src/format.rt:52:17
 returns : tie.Need-returns
 returns c = search needs
 
--- src/format.rt:54:13
 length-requires-3 : tie.Need-length-requires-3
 length-requires-3 c κs = search needs
 
--- src/format.rt:56:34
 enum-told-2 : tie.Need-enum-told-2
 enum-told-2 c = search needs
 
--- src/format.rt:56:34
 length-requires-4 : tie.Need-length-requires-4
 length-requires-4 c κs = search needs
 
--- src/format.rt:57:33
 enum-told-3 : tie.Need-enum-told-3
 enum-told-3 c = search needs
 
--- src/format.rt:57:33
 length-requires-5 : tie.Need-length-requires-5
 length-requires-5 c κs = search needs
 
--- src/format.rt:58:24
 enum-told-4 : tie.Need-enum-told-4
 enum-told-4 c = search needs
 
--- src/format.rt:58:24
 length-requires-6 : tie.Need-length-requires-6
 length-requires-6 c κs = search needs
 
--- src/format.rt:59:28
 enum-told-5 : tie.Need-enum-told-5
 enum-told-5 c = search needs
 
--- src/format.rt:60:26
 enum-told-6 : tie.Need-enum-told-6
 enum-told-6 c = search needs
 
--- src/format.rt:61:28
 enum-told-7 : tie.Need-enum-told-7
 enum-told-7 c = search needs
 
--- src/format.rt:45:1
 returns-2 : tie.Need-returns-2
 returns-2 c = search needs
 
--- src/format.rt:45:1
 returns-3 : tie.Need-returns-3
 returns-3 c = rw (c .before .before .before .r .given .1) (simp (ne-eqb _ _ (c .before .if1 .left)) (c .length3 .ensures))
 
--- src/format.rt:45:1
 returns-4 : tie.Need-returns-4
 returns-4 c = search needs
 
--- src/format.rt:45:1
 returns-5 : tie.Need-returns-5
 returns-5 c = search needs
 
--- src/format.rt:45:1
 returns-6 : tie.Need-returns-6
 returns-6 c = search needs
 
--- src/format.rt:45:1
 returns-7 : tie.Need-returns-7
 returns-7 c = search needs
 
--- src/format.rt:45:1
 returns-8 : tie.Need-returns-8
 returns-8 c = search needs
 
--- src/format.rt:45:1
 returns-9 : tie.Need-returns-9
 returns-9 c = search needs
 

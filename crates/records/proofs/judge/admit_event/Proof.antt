@@ -1,22 +1,18 @@
-use borrow.Author.Tests.{lt-ltb, le-ltb, le-leb, lt-leb, eq-eqb, ne-eqb}
+-- `records::judge::admit_event` meets its contract.
+-- Assumes nothing.
+use borrow.Author.Tests.{lt-ltb, le-ltb, le-leb, lt-leb}
 use Rattle.records.proofs.judge.admit_event.Statement.{statement}
 use Rattle.records.proofs.judge.admit_event.Tie as tie
-use Rattle.records.proofs.judge.admit_event.Reads as reads
-use Rattle.records.proofs.judge.admit_event.Lts as lts
 
--- src/judge.rt:58:9
 returns : tie.Need-returns
 returns c = simp (lt-ltb _ _ (c .if1 .taken))
 
--- src/judge.rt:61:9
 returns-2 : tie.Need-returns-2
 returns-2 c = simp (le-ltb _ _ (c .before .before .if1 .left), le-leb _ _ (c .if2 .taken))
 
--- src/judge.rt:64:9
 returns-3 : tie.Need-returns-3
 returns-3 c = simp (le-ltb _ _ (c .before .before .before .if1 .left), lt-leb _ _ (c .before .if2 .left), lt-ltb _ _ (c .if3 .taken))
 
--- src/judge.rt:54:1
 returns-4 : tie.Need-returns-4
 returns-4 c = simp (le-ltb _ _ (c .before .before .before .if1 .left), lt-leb _ _ (c .before .if2 .left), le-ltb _ _ (c .if3 .left))
 

@@ -1,18 +1,15 @@
-use borrow.Author.Tests.{lt-ltb, le-ltb, le-leb, lt-leb, eq-eqb, ne-eqb}
+-- `records::judge::admit_event_input` meets its contract.
+-- Assumes nothing.
+use borrow.Author.Tests.{le-leb, lt-leb, eq-eqb, ne-eqb}
 use Rattle.records.proofs.judge.admit_event_input.Statement.{statement}
 use Rattle.records.proofs.judge.admit_event_input.Tie as tie
-use Rattle.records.proofs.judge.admit_event_input.Reads as reads
-use Rattle.records.proofs.judge.admit_event_input.Lts as lts
 
--- src/judge.rt:111:9
 returns : tie.Need-returns
 returns c = simp (eq-eqb _ _ (c .if1 .taken))
 
--- src/judge.rt:114:9
 returns-2 : tie.Need-returns-2
 returns-2 c = simp (ne-eqb _ _ (c .before .before .if1 .left), le-leb _ _ (c .if2 .taken))
 
--- src/judge.rt:107:1
 returns-3 : tie.Need-returns-3
 returns-3 c = simp (ne-eqb _ _ (c .before .before .if1 .left), lt-leb _ _ (c .if2 .left))
 

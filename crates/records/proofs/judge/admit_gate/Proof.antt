@@ -1,45 +1,35 @@
-use mathlib.Core.Path.{_≡_, refl, sym, ap, _∙_}
+-- `records::judge::admit_gate` meets its contract.
+-- Assumes nothing.
+use mathlib.Core.Path.{sym, _∙_}
 use borrow.Author.Tests.{lt-ltb, le-ltb, le-leb, lt-leb, eq-eqb, ne-eqb}
 use borrow.Author.Needs.{needs}
 use Rattle.records.proofs.judge.admit_gate.Statement.{statement}
 use Rattle.records.proofs.judge.admit_gate.Tie as tie
-use Rattle.records.proofs.judge.admit_gate.Reads as reads
-use Rattle.records.proofs.judge.admit_gate.Lts as lts
-use Rattle.records.proofs.judge.wrong_k.Reads as wrong-k-reads
 
--- src/judge.rt:87:9
 returns : tie.Need-returns
 returns c = simp (lt-ltb _ _ (c .if1 .taken))
 
--- src/judge.rt:90:9
 returns-2 : tie.Need-returns-2
 returns-2 c = simp (le-ltb _ _ (c .before .before .if1 .left), le-leb _ _ (c .if2 .taken))
 
--- src/judge.rt:93:9
 returns-3 : tie.Need-returns-3
 returns-3 c = simp (le-ltb _ _ (c .before .before .before .if1 .left), lt-leb _ _ (c .before .if2 .left), eq-eqb _ _ (c .if3 .taken))
 
--- src/judge.rt:96:9
 returns-4 : tie.Need-returns-4
 returns-4 c = simp (le-ltb _ _ (c .before .before .before .before .if1 .left), lt-leb _ _ (c .before .before .if2 .left), ne-eqb _ _ (c .before .if3 .left), lt-ltb _ _ (c .if4 .taken))
 
--- src/judge.rt:98:17
 add-if5 : tie.Need-add-if5
 add-if5 c = search needs
 
--- src/judge.rt:99:9
 returns-5 : tie.Need-returns-5
 returns-5 c = simp (le-ltb _ _ (c .before .before .before .before .before .before .if1 .left), lt-leb _ _ (c .before .before .before .before .if2 .left), ne-eqb _ _ (c .before .before .before .if3 .left), le-ltb _ _ (c .before .before .if4 .left), lt-ltb _ _ (c .if5 .taken))
 
--- src/judge.rt:101:8
 wrong-k-requires : tie.Need-wrong-k-requires
 wrong-k-requires c κs = search needs
 
--- src/judge.rt:102:9
 returns-6 : tie.Need-returns-6
 returns-6 c = simp (le-ltb _ _ (c .before .before .before .before .before .before .before .before .if1 .left), lt-leb _ _ (c .before .before .before .before .before .before .if2 .left), ne-eqb _ _ (c .before .before .before .before .before .if3 .left), le-ltb _ _ (c .before .before .before .before .if4 .left), le-ltb _ _ (c .before .before .if5 .left), sym (c .before .wrong-k .ensures) ∙ c .if6 .taken)
 
--- src/judge.rt:82:1
 returns-7 : tie.Need-returns-7
 returns-7 c = simp (le-ltb _ _ (c .before .before .before .before .before .before .before .before .if1 .left), lt-leb _ _ (c .before .before .before .before .before .before .if2 .left), ne-eqb _ _ (c .before .before .before .before .before .if3 .left), le-ltb _ _ (c .before .before .before .before .if4 .left), le-ltb _ _ (c .before .before .if5 .left), sym (c .before .wrong-k .ensures) ∙ c .if6 .left)
 

@@ -1,66 +1,51 @@
-use mathlib.Core.Path.{_≡_, refl, sym, ap, _∙_}
+-- `records::uses::unused` meets its contract.
+-- Assumes nothing.
+use mathlib.Core.Path.{_≡_, sym, _∙_}
 use native.Mathlib.Omega.{arith}
 use Rattle.records.proofs.Closing.{unused-event, unused-gate, unused-none}
 use borrow.Author.Needs.{needs}
 use Rattle.records.proofs.uses.unused.Statement.{statement}
 use Rattle.records.proofs.uses.unused.Tie as tie
-use Rattle.records.proofs.uses.unused.Reads as reads
-use Rattle.records.proofs.uses.unused.Lts as lts
-use Rattle.records.proofs.format.length.Reads as length-reads
-use Rattle.records.proofs.uses.missing.Reads as missing-reads
 
--- src/uses.rt:63:11
 missing-requires : tie.Need-missing-requires
 missing-requires c κs = search needs
 
--- src/uses.rt:64:19
 enum-known-i : tie.Need-enum-known-i
 enum-known-i c = search needs
 
--- src/uses.rt:65:30
 length-requires : tie.Need-length-requires
 length-requires c κs = search needs
 
--- src/uses.rt:65:30
 mul-t9 : tie.Need-mul-t9
 mul-t9 c = let n : c .length .result ≡ 5 = c .length .ensures in rw n (record { fits = omega (arith, c .before .before .before .before .before .before .before .before .pre, rw (c .before .before .i .given .1) at (c .before .before .before .before .missing .ensures .1)) })
 
--- src/uses.rt:65:13
 returns : tie.Need-returns
 returns c = rw (c .length .ensures) (unused-event _ _ _ _ (sym (c .before .before .before .before .missing .ensures .0) ∙ c .before .before .i .given .1))
 
 enum-told : tie.Need-enum-told
 enum-told c = search needs
 
--- src/uses.rt:69:46
 sub-missing : tie.Need-sub-missing
 sub-missing c = search needs
 
--- src/uses.rt:69:11
 missing-requires-2 : tie.Need-missing-requires-2
 missing-requires-2 c κs = search needs
 
--- src/uses.rt:70:19
 enum-known-g : tie.Need-enum-known-g
 enum-known-g c = search needs
 
--- src/uses.rt:70:35
 mul-t14 : tie.Need-mul-t14
 mul-t14 c = omega (arith, c .before .before .before .before .before .before .before .before .before .before .pre, rw (c .before .g .given .1) at (c .before .before .before .missing2 .ensures .1))
 
--- src/uses.rt:70:35
 shared-slice-read-t16 : tie.Need-shared-slice-read-t16
 shared-slice-read-t16 c = omega (arith, c .before .before .before .before .before .before .before .before .before .before .before .pre, rw (c .before .before .g .given .1) at (c .before .before .before .before .missing2 .ensures .1))
 
--- src/uses.rt:71:27
 enum-told-2 : tie.Need-enum-told-2
 enum-told-2 c = search needs
 
--- src/uses.rt:59:1
 returns-2 : tie.Need-returns-2
 returns-2 c = unused-gate _ _ _ _ (sym (c .before .before .before .before .before .before .before .missing .ensures .0) ∙ c .before .before .before .before .before .enum-told .given .1) (sym (c .before .before .before .before .missing2 .ensures .0) ∙ c .before .before .g .given .1)
 
--- src/uses.rt:59:1
 returns-3 : tie.Need-returns-3
 returns-3 c = unused-none _ _ _ _ (sym (c .before .before .before .before .before .missing .ensures .0) ∙ c .before .before .before .enum-told .given .1) (sym (c .before .before .missing2 .ensures .0) ∙ c .enum-told2 .given .1)
 

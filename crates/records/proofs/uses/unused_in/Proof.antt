@@ -1,41 +1,32 @@
-use mathlib.Core.Path.{_≡_, refl, sym, ap, _∙_}
+-- `records::uses::unused_in` meets its contract.
+-- Assumes nothing.
+use mathlib.Core.Path.{sym}
 use lib.Seq.{length-take-le}
 use Rattle.records.proofs.Closing.{gates-fit, places-fit, inputs-fit, complete, found}
 use Rattle.records.proofs.uses.unused_in.Statement.{statement}
 use Rattle.records.proofs.uses.unused_in.Tie as tie
-use Rattle.records.proofs.uses.unused_in.Reads as reads
-use Rattle.records.proofs.uses.unused_in.Lts as lts
-use Rattle.records.proofs.uses.unused.Reads as unused-reads
 
--- src/uses.rt:91:9
 array-share-prefix-sizes : tie.Need-array-share-prefix-sizes
 array-share-prefix-sizes c = gates-fit (c .pre .1) (c .pre .2)
 
--- src/uses.rt:91:9
 slice-aggregate-unused : tie.Need-slice-aggregate-unused
 slice-aggregate-unused c = sym (length-take-le _ _ (gates-fit (c .before .pre .1) (c .before .pre .2)))
 
--- src/uses.rt:92:9
 array-share-prefix-places : tie.Need-array-share-prefix-places
 array-share-prefix-places c = places-fit (c .before .pre .1) (c .before .pre .2)
 
--- src/uses.rt:92:9
 slice-aggregate-unused-2 : tie.Need-slice-aggregate-unused-2
 slice-aggregate-unused-2 c = sym (length-take-le _ _ (places-fit (c .before .before .pre .1) (c .before .before .pre .2)))
 
--- src/uses.rt:93:9
 array-share-prefix-inputs : tie.Need-array-share-prefix-inputs
 array-share-prefix-inputs c = inputs-fit (c .before .before .pre .1) (c .before .before .pre .2)
 
--- src/uses.rt:93:9
 slice-aggregate-unused-3 : tie.Need-slice-aggregate-unused-3
 slice-aggregate-unused-3 c = sym (length-take-le _ _ (inputs-fit (c .before .before .before .pre .1) (c .before .before .before .pre .2)))
 
--- src/uses.rt:89:5
 unused-requires : tie.Need-unused-requires
 unused-requires c κs = complete (c .before .before .before .pre .1) (c .before .before .before .pre .2) (c .before .before .before .pre .3) (c .before .before .before .pre .4)
 
--- src/uses.rt:78:1
 returns : tie.Need-returns
 returns c = λ b h e. found h e (c .unused .ensures)
 

@@ -1,18 +1,17 @@
+-- `records::uses::used` meets its contract.
+-- Assumes nothing.
 use native.Mathlib.Nat.{le-antisymm}
 use mathlib.Core.Path.{_≡_, refl, sym, ap, _∙_}
-use mathlib.Core.Bool.{true, false}
-use Prim.Native.Nat.{ℕ, _+_, _-_, _≤_, _<_}
+use mathlib.Core.Bool.{false}
+use Prim.Native.Nat.{ℕ, _+_, _-_, _≤_}
 use native.Mathlib.Omega.{arith}
-use borrow.Author.Needs.{needs}
-use lib.ListN.{length, getD, drop}
+use lib.ListN.{length, drop}
 use denote.Ref.{now}
 use Rattle.paper.specs.Lists.{sum}
 use Rattle.records.specs.Uses.{among}
 use Rattle.records.proofs.Seek.{sum-more, sum-none, among-here, among-past, among-none}
 use Rattle.records.proofs.uses.used.Statement.{statement}
 use Rattle.records.proofs.uses.used.Tie as tie
-use Rattle.records.proofs.uses.used.Reads as reads
-use Rattle.records.proofs.uses.used.Lts as lts
 
 abbrev Inv-loop : tie.InvT-loop
 Inv-loop sizes inputs wanted found₀ first g end i₀ found i = (found ≡ false) × (i ≤ end) × (end ≤ length inputs) × (among wanted inputs ≡ among wanted (drop i inputs))
@@ -26,63 +25,48 @@ Inv-search sizes inputs wanted found₀ first₀ g₀ found first g = (found ≡
 abbrev μ-search : tie.MeasureT-search
 μ-search sizes inputs wanted found₀ first₀ g₀ found first g = length sizes - g
 
--- src/lib.rt:268:5
 search-holds : tie.Need-search-holds Inv-loop μ-loop Inv-search μ-search
 search-holds c = (refl, omega arith, omega (arith, c .pre), refl)
 
--- src/lib.rt:269:28
 shared-slice-read-end : tie.Need-shared-slice-read-end Inv-loop μ-loop Inv-search μ-search
 shared-slice-read-end c = omega arith
 
--- src/lib.rt:269:28
 cast-end : tie.Need-cast-end Inv-loop μ-loop Inv-search μ-search
 cast-end c = omega (arith, c .shared-slice-known .given (c .before .before .search .g))
 
--- src/lib.rt:269:19
 add-end : tie.Need-add-end Inv-loop μ-loop Inv-search μ-search
 add-end c = omega (arith, sum-more (now (c .before .before .before .args .sizes)) (c .before .before .search .g) (c .before .search-test .taken))
 
--- src/lib.rt:271:9
 loop-holds : tie.Need-loop-holds Inv-loop μ-loop Inv-search μ-search
 loop-holds c = (c .before .before .search .inv .0, omega arith, omega (arith, sum-more (now (c .before .before .before .args .sizes)) (c .before .before .search .g) (c .before .search-test .taken)), c .before .before .search .inv .3)
 
--- src/lib.rt:272:16
 mul-if1 : tie.Need-mul-if1 Inv-loop μ-loop Inv-search μ-search
 mul-if1 c = omega arith
 
--- src/lib.rt:272:16
 shared-slice-read-if1 : tie.Need-shared-slice-read-if1 Inv-loop μ-loop Inv-search μ-search
 shared-slice-read-if1 c = omega arith
 
--- src/lib.rt:276:13
 add-i : tie.Need-add-i Inv-loop μ-loop Inv-search μ-search
 add-i c = omega arith
 
--- src/lib.rt:271:9
 loop-less : tie.Need-loop-less Inv-loop μ-loop Inv-search μ-search
 loop-less c = omega arith
 
--- src/lib.rt:271:9
 loop-again : tie.Need-loop-again Inv-loop μ-loop Inv-search μ-search
 loop-again c = (c .before .before .before .loop .inv .0, omega arith, c .before .before .before .loop .inv .2, c .before .before .before .loop .inv .3 ∙ among-past (now (c .before .before .before .before .before .before .before .args .inputs)) (c .before .before .before .loop .i) (omega arith) _ (c .if1 .left))
 
--- src/lib.rt:279:9
 add-g : tie.Need-add-g Inv-loop μ-loop Inv-search μ-search
 add-g c = omega arith
 
--- src/lib.rt:268:5
 search-less : tie.Need-search-less Inv-loop μ-loop Inv-search μ-search
 search-less c = omega arith
 
--- src/lib.rt:268:5
 search-again : tie.Need-search-again Inv-loop μ-loop Inv-search μ-search
 search-again c = (c .before .loop .inv .0, omega arith, omega (arith, sum-more (now (c .before .before .before .before .before .args .sizes)) (c .before .before .before .before .search .g) (c .before .before .before .search-test .taken)), c .before .loop .inv .3 ∙ ap (λ (k : ℕ). among (c .before .before .before .before .before .args .wanted) (drop k (now (c .before .before .before .before .before .args .inputs)))) (le-antisymm (c .before .loop .inv .1) (c .loop-test .left)))
 
--- src/lib.rt:261:1
 returns : tie.Need-returns Inv-loop μ-loop Inv-search μ-search
 returns c = c .before .search .inv .0 ∙ sym (c .before .search .inv .3 ∙ among-none (now (c .before .before .args .inputs)) (c .before .search .first) _ (omega (arith, sum-none (now (c .before .before .args .sizes)) (c .before .search .g) (c .search-test .left))))
 
--- src/lib.rt:261:1
 returns-2 : tie.Need-returns-2 Inv-loop μ-loop Inv-search μ-search
 returns-2 c = sym (c .before .before .before .loop .inv .3 ∙ among-here (now (c .before .before .before .before .before .before .before .args .inputs)) (c .before .before .before .loop .i) (omega arith) _ (c .if1 .taken))
 

@@ -1,0 +1,75 @@
+-- `analyser::analyse` meets its contract: the reading's number and place, or what the analysis of the tree promises. Assumes nothing.
+use mathlib.Core.Path.{_≡_}
+use native.Mathlib.Omega.{arith}
+use Rattle.analyser.proofs.Outcomes.{reading-refused, reading-done, reading-tried}
+use borrow.Author.Needs.{needs}
+use Rattle.analyser.proofs.analyse.Statement.{statement}
+use Rattle.analyser.proofs.analyse.Tie as tie
+
+read-requires : tie.Need-read-requires
+read-requires c κs = search needs
+
+number-requires : tie.Need-number-requires
+number-requires c κs = search needs
+
+place-requires : tie.Need-place-requires
+place-requires c κs = search needs
+
+refused-requires : tie.Need-refused-requires
+refused-requires c κs = search needs
+
+returns : tie.Need-returns
+returns c =
+    reading-refused _ (c .before .before .before .before .read .ensures .0) (c .before .before .before .number .ensures) (c .before .place .ensures) (λ z. omega arith) (c .refused .ensures) _
+
+analyse-tree-requires : tie.Need-analyse-tree-requires
+analyse-tree-requires c κs =
+    let z : c .before .before .before .before .before .before .before .before .before .before .number .result ≡ 0 = omega arith in reading-done _ (c .before .before .before .before .before .before .before .before .before .before .before .read .ensures .0) (c .before .before .before .before .before .before .before .before .before .before .number .ensures) z
+
+same-length : tie.Need-same-length
+same-length c = search needs
+
+same-length-2 : tie.Need-same-length-2
+same-length-2 c = search needs
+
+same-length-3 : tie.Need-same-length-3
+same-length-3 c = search needs
+
+same-length-4 : tie.Need-same-length-4
+same-length-4 c = search needs
+
+same-length-5 : tie.Need-same-length-5
+same-length-5 c = search needs
+
+same-length-6 : tie.Need-same-length-6
+same-length-6 c = search needs
+
+same-length-7 : tie.Need-same-length-7
+same-length-7 c = search needs
+
+same-length-8 : tie.Need-same-length-8
+same-length-8 c = search needs
+
+returns-2 : tie.Need-returns-2
+returns-2 c =
+    let z : c .before .before .before .before .before .before .before .before .before .before .before .before .before .before .before .before .before .before .before .before .before .before .before .before .before .before .before .number .result ≡ 0 = omega arith in reading-tried _ (c .before .before .before .before .before .before .before .before .before .before .before .before .before .before .before .before .before .before .before .before .before .before .before .before .before .before .before .before .read .ensures .0) (c .before .before .before .before .before .before .before .before .before .before .before .before .before .before .before .before .before .before .before .before .before .before .before .before .before .before .before .number .ensures) z (c .before .before .before .before .before .before .before .before .before .before .before .before .before .before .before .before .analyse-tree .ensures)
+
+pub analyse-spec : {M : Type 1} → statement M
+analyse-spec =
+    tie.close
+    (tie.spec
+    read-requires
+    number-requires
+    place-requires
+    refused-requires
+    returns
+    analyse-tree-requires
+    same-length
+    same-length-2
+    same-length-3
+    same-length-4
+    same-length-5
+    same-length-6
+    same-length-7
+    same-length-8
+    returns-2)
