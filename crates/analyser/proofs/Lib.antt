@@ -1,3 +1,4 @@
 pub mod Flags
 pub mod Tables
 pub mod Outcomes
+pub mod Promises
