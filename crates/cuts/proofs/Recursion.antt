@@ -4,7 +4,7 @@ use mathlib.Core.Path.{_≡_, refl, sym, ap, ap₂, _∙_, subst}
 use mathlib.Core.Logic.{_⊎_, inl, inr}
 use mathlib.Core.Bool.{Bool, true, false, true≢false}
 use mathlib.Core.List.{List}
-use Prim.Native.Nat.{ℕ, suc, _+_, _-_, _<_, _≤_, min}
+use Prim.Native.Nat.{ℕ, suc, _+_, _-_, _/_, _<_, _≤_, min}
 use native.Mathlib.Omega.{arith}
 use lib.ListN.{length}
 use Rattle.paper.specs.Limits.{limits}
@@ -86,11 +86,12 @@ taken-here {C} {H} {X} {d} {M} {T} rd a = record { made = makes-here (rd .store)
 
 -- ---- a part that finds no room
 
--- the answer is handed on
-pub handed : {C₁ C : List ℕ} {d₁ d : ℕ} {A D : Diagram} {C′ H′ X′ : List ℕ} (T M′ : List ℕ) (b : Built) {k : ℕ} → b ≡ Short k
-    → ((d′ : ℕ) → Stops (Part A) C₁ d₁ C′ H′ X′ d′ → Stops (Part D) C d C′ H′ X′ d′) → Takes C₁ d₁ T A C′ H′ X′ M′ b → Takes C d T D C′ H′ X′ M′ b
-handed T M′ (Done r d′) e f t = let z : _≡_ {A = ℕ} 0 1 = cc in absurd (omega arith)
-handed T M′ (Short d′) e f t = f d′ t
+-- the answer is handed on, with the count of a full table
+pub handed : {C₁ C : List ℕ} {d₁ d : ℕ} {A D : Diagram} {C′ H′ X′ : List ℕ} (T M′ : List ℕ) (b r : Built) {k : ℕ} → b ≡ Short k → r ≡ Short (length C′ / 3)
+    → ((d′ : ℕ) → Stops (Part A) C₁ d₁ C′ H′ X′ d′ → Stops (Part D) C d C′ H′ X′ d′) → Takes C₁ d₁ T A C′ H′ X′ M′ b → Takes C d T D C′ H′ X′ M′ r
+handed T M′ (Done x d′) r e q f t = let z : _≡_ {A = ℕ} 0 1 = cc in absurd (omega arith)
+handed {C = C} {d = d} {D = D} {C′ = C′} {H′ = H′} {X′ = X′} T M′ (Short d′) r e q f t =
+    subst (Takes C d T D C′ H′ X′ M′) (sym q) (subst (Stops (Part D) C d C′ H′ X′) (t .lacks .full) (f d′ t))
 
 -- ---- the recursion
 

@@ -3,7 +3,7 @@
 use store::Built;
 use store::Known;
 ghost use mathlib.Core.Path.{_≡_};
-ghost use Prim.Native.Nat.{_+_, _<_, _≤_};
+ghost use Prim.Native.Nat.{_+_, _/_, _<_, _≤_};
 ghost use lib.ListN.{length};
 ghost use Rattle.algebra.specs.Families.{mkZ, withoutD, cutsD};
 ghost use Rattle.tables.specs.Table.{den};
@@ -21,6 +21,18 @@ pub struct Parts {
     pub g1: u32,
     pub f0: u32,
     pub g0: u32,
+}
+
+fn branches(e: u32, f1: u32, g1: u32, f0: u32, g0: u32) -> Parts
+    ensures { λ r. ⌜ r ≡ record { e = e; f1 = f1; g1 = g1; f0 = f0; g0 = g0 } ⌝ }
+{
+    Parts {
+        e: e,
+        f1: f1,
+        g1: g1,
+        f0: f0,
+        g0: g0,
+    }
 }
 
 // ---- F without G: the sets of F that do not make G fail
@@ -63,30 +75,12 @@ fn take_apart(
     let x = cut[i];
     let y = nodes[j];
     if x < y {
-        return Parts {
-            e: x,
-            f1: cut[i + 1],
-            g1: g,
-            f0: cut[i + 2],
-            g0: g,
-        };
+        return branches(x, cut[i + 1], g, cut[i + 2], g);
     }
     if y < x {
-        return Parts {
-            e: y,
-            f1: 0,
-            g1: 0,
-            f0: f,
-            g0: nodes[j + 2],
-        };
+        return branches(y, 0, 0, f, nodes[j + 2]);
     }
-    Parts {
-        e: x,
-        f1: cut[i + 1],
-        g1: nodes[j + 1],
-        f0: cut[i + 2],
-        g0: nodes[j + 2],
-    }
+    branches(x, cut[i + 1], nodes[j + 1], cut[i + 2], nodes[j + 2])
 }
 
 // Makes the node over the two results, and keeps it in the memo as that of f without g.
@@ -118,6 +112,13 @@ fn finish(
     }
 }
 
+// The answer where the cut table is full: it has as many nodes as it has room for.
+fn full(cut: &[u32]) -> Built
+    ensures { λ r. ⌜ r ≡ Built.Short (length (now (cut .entry)) / 3) ⌝ }
+{
+    Built::Short(cut.len() / 3)
+}
+
 // f without g, neither of them a leaf and not in the memo: F1 without G1 joined with F2 without G2 under the earlier event.
 fn without_nodes(
     cut: &mut [u32],
@@ -141,7 +142,7 @@ fn without_nodes(
             Known::Unknown(at0) => {
                 let b = without_nodes(cut, heads, next, memo, nodes, count, p.f0, p.g0, at0);
                 let Built::Done(r0, c0) = b else {
-                    return b;
+                    return full(cut);
                 };
                 finish(cut, heads, next, memo, c0, f, g, at, p.e, r1, r0)
             }
@@ -149,14 +150,14 @@ fn without_nodes(
         Known::Unknown(at1) => {
             let a = without_nodes(cut, heads, next, memo, nodes, count, p.f1, p.g1, at1);
             let Built::Done(r1, c1) = a else {
-                return a;
+                return full(cut);
             };
             match ask(memo, p.f0, p.g0) {
                 Known::Node(r0) => finish(cut, heads, next, memo, c1, f, g, at, p.e, r1, r0),
                 Known::Unknown(at0) => {
                     let b = without_nodes(cut, heads, next, memo, nodes, c1, p.f0, p.g0, at0);
                     let Built::Done(r0, c0) = b else {
-                        return b;
+                        return full(cut);
                     };
                     finish(cut, heads, next, memo, c0, f, g, at, p.e, r1, r0)
                 }

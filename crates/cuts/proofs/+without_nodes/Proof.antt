@@ -13,6 +13,7 @@ use Rattle.cuts.proofs.without_nodes.Kinds as kinds
 use Rattle.cuts.proofs.+without_nodes.Lts-without_nodes as lts
 use Rattle.cuts.proofs.ask.Reads as ask-reads
 use Rattle.cuts.proofs.finish.Reads as finish-reads
+use Rattle.cuts.proofs.full.Reads as full-reads
 use Rattle.cuts.proofs.take_apart.Reads as take-apart-reads
 use Rattle.cuts.proofs.+without_nodes.{statement}
 use Rattle.cuts.proofs.+without_nodes.Tie.{close}
@@ -29,7 +30,7 @@ again t = and 5 kinds.ps (falls 5 kinds.ps _<_ measure t) reads.Pre
 
 -- what the calls ask and tell
 abbrev calls : ℕ → lts.Claims
-calls t = (take-apart-reads.Asked, take-apart-reads.Learnt, ask-reads.Asked, ask-reads.Learnt, finish-reads.Asked, finish-reads.Learnt, again t, reads.Post)
+calls t = (take-apart-reads.Asked, take-apart-reads.Learnt, ask-reads.Asked, ask-reads.Learnt, finish-reads.Asked, finish-reads.Learnt, again t, reads.Post, full-reads.Asked, full-reads.Learnt)
 
 take-apart-requires : (t : ℕ) → lts.Need-take-apart-requires (calls t) (entry t) reads.Post
 take-apart-requires t c κs =
@@ -75,25 +76,28 @@ enum-known-b t c = search needs
 enum-told : (t : ℕ) → lts.Need-enum-told (calls t) (entry t) reads.Post
 enum-told t c = search needs
 
+full-requires : (t : ℕ) → lts.Need-full-requires (calls t) (entry t) reads.Post
+full-requires t c κs = search needs
+
 same-length : (t : ℕ) → lts.Need-same-length (calls t) (entry t) reads.Post
-same-length t c = c .before .before .before .before .before .before .before .before .before .before .without-nodes .kept .0
+same-length t c = c .before .before .before .before .before .before .before .before .before .before .before .before .without-nodes .kept .0
 
 same-length-2 : (t : ℕ) → lts.Need-same-length-2 (calls t) (entry t) reads.Post
-same-length-2 t c = c .before .before .before .before .before .before .before .before .before .before .without-nodes .kept .1 .0
+same-length-2 t c = c .before .before .before .before .before .before .before .before .before .before .before .before .without-nodes .kept .1 .0
 
 same-length-3 : (t : ℕ) → lts.Need-same-length-3 (calls t) (entry t) reads.Post
-same-length-3 t c = c .before .before .before .before .before .before .before .before .before .before .without-nodes .kept .1 .1 .0
+same-length-3 t c = c .before .before .before .before .before .before .before .before .before .before .before .before .without-nodes .kept .1 .1 .0
 
 same-length-4 : (t : ℕ) → lts.Need-same-length-4 (calls t) (entry t) reads.Post
-same-length-4 t c = c .before .before .before .before .before .before .before .before .before .before .without-nodes .kept .1 .1 .1 .0
+same-length-4 t c = c .before .before .before .before .before .before .before .before .before .before .before .before .without-nodes .kept .1 .1 .1 .0
 
 returns : (t : ℕ) → lts.Need-returns (calls t) (entry t) reads.Post
 returns t c =
-    let ready = c .before .before .before .before .before .before .before .before .before .before .before .before .before .before .before .before .before .before .before .before .before .before .before .before .before .before .before .before .before .before .before .before .before .before .pre .1 .0 in
-    let nodes = c .before .before .before .before .before .before .before .before .before .before .before .before .before .before .before .before .before .before .before .before .before .before .before .before .before .before .before .before .before .before .before .before .before .before .args .nodes .now in
-    let parts = c .before .before .before .before .before .before .before .before .before .before .before .before .before .before .before .before .before .before .before .before .before .before .before .before .before .take-apart .ensures in
-    let known-1 = taken-here (ready-1 ready parts) (rw (c .before .before .before .before .before .before .before .before .before .before .before .before .before .before .before .before .before .before .before .before .before .r1 .given .1) at (c .before .before .before .before .before .before .before .before .before .before .before .before .before .before .before .before .before .before .before .before .before .before .before .ask .ensures)) in
-    handed nodes (c .before .before .before .before .before .before .before .before .before .before .without-nodes .last .1 .1 .1 .0) (c .before .before .before .before .before .before .before .before .before .before .without-nodes .result) (c .enum-told .given .1) (λ _. short-2 ready parts known-1) (c .before .before .before .before .before .before .before .before .before .before .without-nodes .ensures)
+    let ready = c .before .before .before .before .before .before .before .before .before .before .before .before .before .before .before .before .before .before .before .before .before .before .before .before .before .before .before .before .before .before .before .before .before .before .before .before .pre .1 .0 in
+    let nodes = c .before .before .before .before .before .before .before .before .before .before .before .before .before .before .before .before .before .before .before .before .before .before .before .before .before .before .before .before .before .before .before .before .before .before .before .before .args .nodes .now in
+    let parts = c .before .before .before .before .before .before .before .before .before .before .before .before .before .before .before .before .before .before .before .before .before .before .before .before .before .before .before .take-apart .ensures in
+    let known-1 = taken-here (ready-1 ready parts) (rw (c .before .before .before .before .before .before .before .before .before .before .before .before .before .before .before .before .before .before .before .before .before .before .before .r1 .given .1) at (c .before .before .before .before .before .before .before .before .before .before .before .before .before .before .before .before .before .before .before .before .before .before .before .before .before .ask .ensures)) in
+    handed nodes (c .before .before .before .before .before .before .before .before .before .before .before .before .without-nodes .last .1 .1 .1 .0) (c .before .before .before .before .before .before .before .before .before .before .before .before .without-nodes .result) (c .full .result) (c .before .before .enum-told .given .1) (c .full .ensures) (λ _. short-2 ready parts known-1) (c .before .before .before .before .before .before .before .before .before .before .before .before .without-nodes .ensures)
 
 finish-requires-2 : (t : ℕ) → lts.Need-finish-requires-2 (calls t) (entry t) reads.Post
 finish-requires-2 t c κs =
@@ -120,24 +124,27 @@ enum-known-a t c = search needs
 enum-told-2 : (t : ℕ) → lts.Need-enum-told-2 (calls t) (entry t) reads.Post
 enum-told-2 t c = search needs
 
+full-requires-2 : (t : ℕ) → lts.Need-full-requires-2 (calls t) (entry t) reads.Post
+full-requires-2 t c κs = search needs
+
 same-length-5 : (t : ℕ) → lts.Need-same-length-5 (calls t) (entry t) reads.Post
-same-length-5 t c = c .before .before .before .before .before .before .before .before .before .before .without-nodes2 .kept .0
+same-length-5 t c = c .before .before .before .before .before .before .before .before .before .before .before .before .without-nodes2 .kept .0
 
 same-length-6 : (t : ℕ) → lts.Need-same-length-6 (calls t) (entry t) reads.Post
-same-length-6 t c = c .before .before .before .before .before .before .before .before .before .before .without-nodes2 .kept .1 .0
+same-length-6 t c = c .before .before .before .before .before .before .before .before .before .before .before .before .without-nodes2 .kept .1 .0
 
 same-length-7 : (t : ℕ) → lts.Need-same-length-7 (calls t) (entry t) reads.Post
-same-length-7 t c = c .before .before .before .before .before .before .before .before .before .before .without-nodes2 .kept .1 .1 .0
+same-length-7 t c = c .before .before .before .before .before .before .before .before .before .before .before .before .without-nodes2 .kept .1 .1 .0
 
 same-length-8 : (t : ℕ) → lts.Need-same-length-8 (calls t) (entry t) reads.Post
-same-length-8 t c = c .before .before .before .before .before .before .before .before .before .before .without-nodes2 .kept .1 .1 .1 .0
+same-length-8 t c = c .before .before .before .before .before .before .before .before .before .before .before .before .without-nodes2 .kept .1 .1 .1 .0
 
 returns-2 : (t : ℕ) → lts.Need-returns-2 (calls t) (entry t) reads.Post
 returns-2 t c =
-    let ready = c .before .before .before .before .before .before .before .before .before .before .before .before .before .before .before .before .before .before .before .before .before .before .before .before .before .before .before .before .before .pre .1 .0 in
-    let nodes = c .before .before .before .before .before .before .before .before .before .before .before .before .before .before .before .before .before .before .before .before .before .before .before .before .before .before .before .before .before .args .nodes .now in
-    let parts = c .before .before .before .before .before .before .before .before .before .before .before .before .before .before .before .before .before .before .before .before .take-apart .ensures in
-    handed nodes (c .before .before .before .before .before .before .before .before .before .before .without-nodes2 .last .1 .1 .1 .0) (c .before .before .before .before .before .before .before .before .before .before .without-nodes2 .result) (c .enum-told2 .given .1) (λ _. short-1 ready parts) (c .before .before .before .before .before .before .before .before .before .before .without-nodes2 .ensures)
+    let ready = c .before .before .before .before .before .before .before .before .before .before .before .before .before .before .before .before .before .before .before .before .before .before .before .before .before .before .before .before .before .before .before .pre .1 .0 in
+    let nodes = c .before .before .before .before .before .before .before .before .before .before .before .before .before .before .before .before .before .before .before .before .before .before .before .before .before .before .before .before .before .before .before .args .nodes .now in
+    let parts = c .before .before .before .before .before .before .before .before .before .before .before .before .before .before .before .before .before .before .before .before .before .before .take-apart .ensures in
+    handed nodes (c .before .before .before .before .before .before .before .before .before .before .before .before .without-nodes2 .last .1 .1 .1 .0) (c .before .before .before .before .before .before .before .before .before .before .before .before .without-nodes2 .result) (c .full2 .result) (c .before .before .enum-told2 .given .1) (c .full2 .ensures) (λ _. short-1 ready parts) (c .before .before .before .before .before .before .before .before .before .before .before .before .without-nodes2 .ensures)
 
 ask-requires-3 : (t : ℕ) → lts.Need-ask-requires-3 (calls t) (entry t) reads.Post
 ask-requires-3 t c κs = tt
@@ -171,25 +178,28 @@ enum-known-b-2 t c = search needs
 enum-told-3 : (t : ℕ) → lts.Need-enum-told-3 (calls t) (entry t) reads.Post
 enum-told-3 t c = search needs
 
+full-requires-3 : (t : ℕ) → lts.Need-full-requires-3 (calls t) (entry t) reads.Post
+full-requires-3 t c κs = search needs
+
 same-length-9 : (t : ℕ) → lts.Need-same-length-9 (calls t) (entry t) reads.Post
-same-length-9 t c = c .before .before .before .before .before .before .before .before .before .before .without-nodes3 .kept .0 ∙ c .before .before .before .before .before .before .before .before .before .before .before .before .before .before .before .before .before .before .before .before .before .before .before .before .before .before .before .before .before .before .before .without-nodes2 .kept .0
+same-length-9 t c = c .before .before .before .before .before .before .before .before .before .before .before .before .without-nodes3 .kept .0 ∙ c .before .before .before .before .before .before .before .before .before .before .before .before .before .before .before .before .before .before .before .before .before .before .before .before .before .before .before .before .before .before .before .before .before .without-nodes2 .kept .0
 
 same-length-10 : (t : ℕ) → lts.Need-same-length-10 (calls t) (entry t) reads.Post
-same-length-10 t c = c .before .before .before .before .before .before .before .before .before .before .without-nodes3 .kept .1 .0 ∙ c .before .before .before .before .before .before .before .before .before .before .before .before .before .before .before .before .before .before .before .before .before .before .before .before .before .before .before .before .before .before .before .without-nodes2 .kept .1 .0
+same-length-10 t c = c .before .before .before .before .before .before .before .before .before .before .before .before .without-nodes3 .kept .1 .0 ∙ c .before .before .before .before .before .before .before .before .before .before .before .before .before .before .before .before .before .before .before .before .before .before .before .before .before .before .before .before .before .before .before .before .before .without-nodes2 .kept .1 .0
 
 same-length-11 : (t : ℕ) → lts.Need-same-length-11 (calls t) (entry t) reads.Post
-same-length-11 t c = c .before .before .before .before .before .before .before .before .before .before .without-nodes3 .kept .1 .1 .0 ∙ c .before .before .before .before .before .before .before .before .before .before .before .before .before .before .before .before .before .before .before .before .before .before .before .before .before .before .before .before .before .before .before .without-nodes2 .kept .1 .1 .0
+same-length-11 t c = c .before .before .before .before .before .before .before .before .before .before .before .before .without-nodes3 .kept .1 .1 .0 ∙ c .before .before .before .before .before .before .before .before .before .before .before .before .before .before .before .before .before .before .before .before .before .before .before .before .before .before .before .before .before .before .before .before .before .without-nodes2 .kept .1 .1 .0
 
 same-length-12 : (t : ℕ) → lts.Need-same-length-12 (calls t) (entry t) reads.Post
-same-length-12 t c = c .before .before .before .before .before .before .before .before .before .before .without-nodes3 .kept .1 .1 .1 .0 ∙ c .before .before .before .before .before .before .before .before .before .before .before .before .before .before .before .before .before .before .before .before .before .before .before .before .before .before .before .before .before .before .before .without-nodes2 .kept .1 .1 .1 .0
+same-length-12 t c = c .before .before .before .before .before .before .before .before .before .before .before .before .without-nodes3 .kept .1 .1 .1 .0 ∙ c .before .before .before .before .before .before .before .before .before .before .before .before .before .before .before .before .before .before .before .before .before .before .before .before .before .before .before .before .before .before .before .before .before .without-nodes2 .kept .1 .1 .1 .0
 
 returns-3 : (t : ℕ) → lts.Need-returns-3 (calls t) (entry t) reads.Post
 returns-3 t c =
-    let ready = c .before .before .before .before .before .before .before .before .before .before .before .before .before .before .before .before .before .before .before .before .before .before .before .before .before .before .before .before .before .before .before .before .before .before .before .before .before .before .before .before .before .before .before .before .before .before .before .before .before .before .pre .1 .0 in
-    let nodes = c .before .before .before .before .before .before .before .before .before .before .before .before .before .before .before .before .before .before .before .before .before .before .before .before .before .before .before .before .before .before .before .before .before .before .before .before .before .before .before .before .before .before .before .before .before .before .before .before .before .before .args .nodes .now in
-    let parts = c .before .before .before .before .before .before .before .before .before .before .before .before .before .before .before .before .before .before .before .before .before .before .before .before .before .before .before .before .before .before .before .before .before .before .before .before .before .before .before .before .before .take-apart .ensures in
-    let made-1 = rw (c .before .before .before .before .before .before .before .before .before .before .before .before .before .before .before .before .before .before .before .before .before .a .given .1) at (c .before .before .before .before .before .before .before .before .before .before .before .before .before .before .before .before .before .before .before .before .before .before .before .before .before .before .before .before .before .before .before .without-nodes2 .ensures) in
-    handed nodes (c .before .before .before .before .before .before .before .before .before .before .without-nodes3 .last .1 .1 .1 .0) (c .before .before .before .before .before .before .before .before .before .before .without-nodes3 .result) (c .enum-told3 .given .1) (λ _. short-2 ready parts made-1) (c .before .before .before .before .before .before .before .before .before .before .without-nodes3 .ensures)
+    let ready = c .before .before .before .before .before .before .before .before .before .before .before .before .before .before .before .before .before .before .before .before .before .before .before .before .before .before .before .before .before .before .before .before .before .before .before .before .before .before .before .before .before .before .before .before .before .before .before .before .before .before .before .before .pre .1 .0 in
+    let nodes = c .before .before .before .before .before .before .before .before .before .before .before .before .before .before .before .before .before .before .before .before .before .before .before .before .before .before .before .before .before .before .before .before .before .before .before .before .before .before .before .before .before .before .before .before .before .before .before .before .before .before .before .before .args .nodes .now in
+    let parts = c .before .before .before .before .before .before .before .before .before .before .before .before .before .before .before .before .before .before .before .before .before .before .before .before .before .before .before .before .before .before .before .before .before .before .before .before .before .before .before .before .before .before .before .take-apart .ensures in
+    let made-1 = rw (c .before .before .before .before .before .before .before .before .before .before .before .before .before .before .before .before .before .before .before .before .before .before .before .a .given .1) at (c .before .before .before .before .before .before .before .before .before .before .before .before .before .before .before .before .before .before .before .before .before .before .before .before .before .before .before .before .before .before .before .before .before .without-nodes2 .ensures) in
+    handed nodes (c .before .before .before .before .before .before .before .before .before .before .before .before .without-nodes3 .last .1 .1 .1 .0) (c .before .before .before .before .before .before .before .before .before .before .before .before .without-nodes3 .result) (c .full3 .result) (c .before .before .enum-told3 .given .1) (c .full3 .ensures) (λ _. short-2 ready parts made-1) (c .before .before .before .before .before .before .before .before .before .before .before .before .without-nodes3 .ensures)
 
 finish-requires-4 : (t : ℕ) → lts.Need-finish-requires-4 (calls t) (entry t) reads.Post
 finish-requires-4 t c κs =
@@ -296,6 +306,7 @@ pub +without-nodes-spec : {M : Type 1} → statement M
     (without-nodes-requires t)
     (enum-known-b t)
     (enum-told t)
+    (full-requires t)
     (same-length t)
     (same-length-2 t)
     (same-length-3 t)
@@ -306,6 +317,7 @@ pub +without-nodes-spec : {M : Type 1} → statement M
     (without-nodes-requires-2 t)
     (enum-known-a t)
     (enum-told-2 t)
+    (full-requires-2 t)
     (same-length-5 t)
     (same-length-6 t)
     (same-length-7 t)
@@ -318,6 +330,7 @@ pub +without-nodes-spec : {M : Type 1} → statement M
     (without-nodes-requires-3 t)
     (enum-known-b-2 t)
     (enum-told-3 t)
+    (full-requires-3 t)
     (same-length-9 t)
     (same-length-10 t)
     (same-length-11 t)

@@ -35,95 +35,104 @@ mul-y c = search needs
 shared-slice-read-y : tie.Need-shared-slice-read-y
 shared-slice-read-y c = search needs
 
-add-t17 : tie.Need-add-t17
-add-t17 c = search needs
+add-branches : tie.Need-add-branches
+add-branches c = search needs
 
-mul-t18 : tie.Need-mul-t18
-mul-t18 c = search needs
+mul-branches : tie.Need-mul-branches
+mul-branches c = search needs
 
-shared-slice-read-t20 : tie.Need-shared-slice-read-t20
-shared-slice-read-t20 c = search needs
+shared-slice-read-branches : tie.Need-shared-slice-read-branches
+shared-slice-read-branches c = search needs
 
-add-t21 : tie.Need-add-t21
-add-t21 c = search needs
+add-branches-2 : tie.Need-add-branches-2
+add-branches-2 c = search needs
 
-mul-t22 : tie.Need-mul-t22
-mul-t22 c = search needs
+mul-branches-2 : tie.Need-mul-branches-2
+mul-branches-2 c = search needs
 
-shared-slice-read-t24 : tie.Need-shared-slice-read-t24
-shared-slice-read-t24 c = search needs
+shared-slice-read-branches-2 : tie.Need-shared-slice-read-branches-2
+shared-slice-read-branches-2 c = search needs
+
+branches-requires : tie.Need-branches-requires
+branches-requires c κs = search needs
 
 returns : tie.Need-returns
 returns c =
-    let store = c .before .before .before .before .before .pre .0 in
-    let family = c .before .before .before .before .before .pre .1 .0 in
-    let function = c .before .before .before .before .before .pre .1 .1 .0 in
-    let f-node = c .before .before .before .before .before .pre .1 .1 .1 .0 in
-    let g-node = c .before .before .before .before .before .pre .1 .1 .1 .1 in
-    part-earlier store family function f-node g-node (c .before .before .if1 .taken)
+    let store = c .before .before .before .before .before .before .before .before .before .before .pre .0 in
+    let family = c .before .before .before .before .before .before .before .before .before .before .pre .1 .0 in
+    let function = c .before .before .before .before .before .before .before .before .before .before .pre .1 .1 .0 in
+    let f-node = c .before .before .before .before .before .before .before .before .before .before .pre .1 .1 .1 .0 in
+    let g-node = c .before .before .before .before .before .before .before .before .before .before .pre .1 .1 .1 .1 in
+    rw (c .branches .ensures) (part-earlier store family function f-node g-node (c .before .before .before .if1 .taken))
 
-add-t25 : tie.Need-add-t25
-add-t25 c = search needs
+add-branches-3 : tie.Need-add-branches-3
+add-branches-3 c = search needs
 
-mul-t26 : tie.Need-mul-t26
-mul-t26 c = search needs
+mul-branches-3 : tie.Need-mul-branches-3
+mul-branches-3 c = search needs
 
-shared-slice-read-t28 : tie.Need-shared-slice-read-t28
-shared-slice-read-t28 c = search needs
+shared-slice-read-branches-3 : tie.Need-shared-slice-read-branches-3
+shared-slice-read-branches-3 c = search needs
+
+branches-requires-2 : tie.Need-branches-requires-2
+branches-requires-2 c κs = search needs
 
 returns-2 : tie.Need-returns-2
 returns-2 c =
-    let store = c .before .before .before .before .before .pre .0 in
-    let family = c .before .before .before .before .before .pre .1 .0 in
-    let function = c .before .before .before .before .before .pre .1 .1 .0 in
-    let f-node = c .before .before .before .before .before .pre .1 .1 .1 .0 in
-    let g-node = c .before .before .before .before .before .pre .1 .1 .1 .1 in
-    part-later store family function f-node g-node (c .before .if2 .taken)
+    let store = c .before .before .before .before .before .before .before .before .before .before .pre .0 in
+    let family = c .before .before .before .before .before .before .before .before .before .before .pre .1 .0 in
+    let function = c .before .before .before .before .before .before .before .before .before .before .pre .1 .1 .0 in
+    let f-node = c .before .before .before .before .before .before .before .before .before .before .pre .1 .1 .1 .0 in
+    let g-node = c .before .before .before .before .before .before .before .before .before .before .pre .1 .1 .1 .1 in
+    rw (c .branches2 .ensures) (part-later store family function f-node g-node (c .before .before .if2 .taken))
 
-add-t13 : tie.Need-add-t13
-add-t13 c = search needs
+add-branches-4 : tie.Need-add-branches-4
+add-branches-4 c = search needs
 
-mul-t29 : tie.Need-mul-t29
-mul-t29 c = search needs
+mul-branches-4 : tie.Need-mul-branches-4
+mul-branches-4 c = search needs
 
-shared-slice-read-t12 : tie.Need-shared-slice-read-t12
-shared-slice-read-t12 c = search needs
+shared-slice-read-branches-4 : tie.Need-shared-slice-read-branches-4
+shared-slice-read-branches-4 c = search needs
 
-add-t31 : tie.Need-add-t31
-add-t31 c = search needs
+add-branches-5 : tie.Need-add-branches-5
+add-branches-5 c = search needs
 
-mul-t32 : tie.Need-mul-t32
-mul-t32 c = search needs
+mul-branches-5 : tie.Need-mul-branches-5
+mul-branches-5 c = search needs
 
-shared-slice-read-t34 : tie.Need-shared-slice-read-t34
-shared-slice-read-t34 c = search needs
+shared-slice-read-branches-5 : tie.Need-shared-slice-read-branches-5
+shared-slice-read-branches-5 c = search needs
 
-add-t35 : tie.Need-add-t35
-add-t35 c = search needs
+add-branches-6 : tie.Need-add-branches-6
+add-branches-6 c = search needs
 
-mul-t36 : tie.Need-mul-t36
-mul-t36 c = search needs
+mul-branches-6 : tie.Need-mul-branches-6
+mul-branches-6 c = search needs
 
-shared-slice-read-t38 : tie.Need-shared-slice-read-t38
-shared-slice-read-t38 c = search needs
+shared-slice-read-branches-6 : tie.Need-shared-slice-read-branches-6
+shared-slice-read-branches-6 c = search needs
 
-add-t39 : tie.Need-add-t39
-add-t39 c = search needs
+add-branches-7 : tie.Need-add-branches-7
+add-branches-7 c = search needs
 
-mul-t40 : tie.Need-mul-t40
-mul-t40 c = search needs
+mul-branches-7 : tie.Need-mul-branches-7
+mul-branches-7 c = search needs
 
-shared-slice-read-t42 : tie.Need-shared-slice-read-t42
-shared-slice-read-t42 c = search needs
+shared-slice-read-branches-7 : tie.Need-shared-slice-read-branches-7
+shared-slice-read-branches-7 c = search needs
+
+branches-requires-3 : tie.Need-branches-requires-3
+branches-requires-3 c κs = search needs
 
 returns-3 : tie.Need-returns-3
 returns-3 c =
-    let store = c .before .before .before .before .before .before .before .before .pre .0 in
-    let family = c .before .before .before .before .before .before .before .before .pre .1 .0 in
-    let function = c .before .before .before .before .before .before .before .before .pre .1 .1 .0 in
-    let f-node = c .before .before .before .before .before .before .before .before .pre .1 .1 .1 .0 in
-    let g-node = c .before .before .before .before .before .before .before .before .pre .1 .1 .1 .1 in
-    part-equal store family function f-node g-node (c .before .before .before .before .if2 .left) (c .before .before .before .before .before .if1 .left)
+    let store = c .before .before .before .before .before .before .before .before .before .before .before .before .before .pre .0 in
+    let family = c .before .before .before .before .before .before .before .before .before .before .before .before .before .pre .1 .0 in
+    let function = c .before .before .before .before .before .before .before .before .before .before .before .before .before .pre .1 .1 .0 in
+    let f-node = c .before .before .before .before .before .before .before .before .before .before .before .before .before .pre .1 .1 .1 .0 in
+    let g-node = c .before .before .before .before .before .before .before .before .before .before .before .before .before .pre .1 .1 .1 .1 in
+    rw (c .branches3 .ensures) (part-equal store family function f-node g-node (c .before .before .before .before .before .if2 .left) (c .before .before .before .before .before .before .if1 .left))
 
 pub take-apart-spec : {M : Type 1} → statement M
 take-apart-spec = tie.close (tie.spec
@@ -137,27 +146,30 @@ take-apart-spec = tie.close (tie.spec
     shared-slice-read-x
     mul-y
     shared-slice-read-y
-    add-t17
-    mul-t18
-    shared-slice-read-t20
-    add-t21
-    mul-t22
-    shared-slice-read-t24
+    add-branches
+    mul-branches
+    shared-slice-read-branches
+    add-branches-2
+    mul-branches-2
+    shared-slice-read-branches-2
+    branches-requires
     returns
-    add-t25
-    mul-t26
-    shared-slice-read-t28
+    add-branches-3
+    mul-branches-3
+    shared-slice-read-branches-3
+    branches-requires-2
     returns-2
-    add-t13
-    mul-t29
-    shared-slice-read-t12
-    add-t31
-    mul-t32
-    shared-slice-read-t34
-    add-t35
-    mul-t36
-    shared-slice-read-t38
-    add-t39
-    mul-t40
-    shared-slice-read-t42
+    add-branches-4
+    mul-branches-4
+    shared-slice-read-branches-4
+    add-branches-5
+    mul-branches-5
+    shared-slice-read-branches-5
+    add-branches-6
+    mul-branches-6
+    shared-slice-read-branches-6
+    add-branches-7
+    mul-branches-7
+    shared-slice-read-branches-7
+    branches-requires-3
     returns-3)
