@@ -1,4 +1,11 @@
 pub mod Flags
+pub mod Holding
 pub mod Tables
 pub mod Outcomes
+pub mod Refusals
+pub mod Renumbering
+pub mod Coincide
+pub mod Which
 pub mod Promises
+pub mod OnTables
+pub mod Delivers

@@ -37,6 +37,7 @@ use Rattle.analyser.specs.Memory.{memory as areas}
 use Rattle.analyser.specs.Analysed.{Refused, at, Done, GateList}
 use Rattle.analyser.specs.Filling.{treeIn, WasRead, Sound, Ground, Settled, CutsFilled, Filled}
 use Rattle.analyser.specs.declared.Analysis.{Analysis}
+use Rattle.analyser.proofs.Holding.{whole-holds, table-holds}
 
 -- ---- the node table is finished
 
@@ -90,6 +91,8 @@ module _ {t : paper.Tree} {m : Memory} {root c : ℕ} (g : Ground t m root c) wh
         unique = cut .store .unique;
         behind = cut .store .behind;
       });
+      nodes-needed = rw (en, ac) (whole-holds (events t) (t .gates) (g .sound .below) (g .whole));
+      cuts-needed = rw (ec, ad) (table-holds (events t) (den (m .nodes) root) (rootFun (t .gates)) fits shows cut);
       nodes-long = ap length en;
       cuts-long = ap length ec ∙ long;
       gates-long = ap length eg;
@@ -143,6 +146,8 @@ module _ {m k : Memory} (s : SameLengths m k) where
     cut-count = z .cut-count;
     node-table = z .node-table;
     cut-table = z .cut-table;
+    nodes-needed = z .nodes-needed;
+    cuts-needed = z .cuts-needed;
     nodes-long = z .nodes-long ∙ s .nodes;
     cuts-long = z .cuts-long ∙ s .cuts;
     gates-long = z .gates-long ∙ s .gates;

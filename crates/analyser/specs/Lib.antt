@@ -2,3 +2,5 @@
 pub mod Memory
 pub mod Analysed
 pub mod Filling
+pub mod Coincide
+pub mod Delivers
