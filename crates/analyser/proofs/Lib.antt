@@ -7,5 +7,7 @@ pub mod Renumbering
 pub mod Coincide
 pub mod Which
 pub mod Promises
+pub mod Telling
+pub mod Serving
 pub mod OnTables
 pub mod Delivers

@@ -9,7 +9,7 @@ use native.Mathlib.Omega.{arith}
 use lib.ListN.{length, List·getD-map}
 use Rattle.paper.specs.Limits.{limits, billion}
 use Rattle.paper.specs.Lists.{In, Once}
-use Rattle.paper.specs.Sets.{Set, Part}
+use Rattle.paper.specs.Sets.{Set, Part, Within}
 use Rattle.paper.specs.Functions.{dependsOn}
 use Rattle.paper.specs.Trees.{Tree, events, rootFun}
 use Rattle.paper.specs.Diagrams.{eval}
@@ -18,8 +18,10 @@ use Rattle.paper.specs.Order.{Sorted, fromStart}
 use Rattle.paper.specs.Listing.{setsBytes}
 use Rattle.paper.specs.Chance.{total, Brackets}
 use Rattle.algebra.proofs.Promises.{listed-exactly, listed-sorted, listed-once, list-decides, root-shows}
+use Rattle.algebra.proofs.Without.{sets-beyond}
 use Rattle.sets.specs.Words.{setOf}
 use Rattle.tables.specs.Table.{den}
+use Rattle.tables.proofs.Lent.{root-ordered}
 use Rattle.records.specs.Judge.{Book}
 use Rattle.records.specs.Memory.{noEvent}
 use Rattle.records.specs.Trees.{Lawful, treeOf}
@@ -27,7 +29,7 @@ use Rattle.records.specs.declared.Event.{Event}
 use Rattle.records.proofs.Lawful.{tree-events}
 use Rattle.listing.specs.Answers.{Answered, no-diagram, beyond, short, done}
 use Rattle.listing.specs.Joined.{Joined}
-use Rattle.listing.proofs.Join.{join}
+use Rattle.listing.proofs.Join.{join, join-all}
 use Rattle.bracket.specs.Bracketed as bracket
 use Rattle.bracket.proofs.Outcome.{encloses-built}
 use Rattle.analyser.specs.Memory.{Memory, capacity}
@@ -36,6 +38,7 @@ use Rattle.analyser.specs.Filling.{Sound}
 use Rattle.analyser.specs.Delivers.{Own}
 use Rattle.analyser.specs.declared.Analysis.{Analysis}
 use Rattle.analyser.proofs.Promises.{root-function}
+use Rattle.analyser.proofs.Telling.{bytes-tell}
 
 -- ---- the chances of a tree that was read
 
@@ -57,6 +60,12 @@ module _ {t : Tree} {m m′ : Memory} {a : Analysis} (d : Done t m m′ a) where
   pub list-is-whole : {begin : Bool} {ws bytes : List ℕ} → Joined (events t) (m′ .cuts) (a .«cut_nodes») (a .«cut_root») begin ws bytes
       → bytes ≡ setsBytes (events t) (fromStart begin (events t) (setOf ws) (cutList (events t) (rootFun (t .gates))))
   list-is-whole {begin} {ws} j = join j ∙ ap (λ l. setsBytes (events t) (fromStart begin (events t) (setOf ws) l)) (d .cuts-are)
+
+  -- THE BYTES of it are those of no other sets
+  pub list-no-other : {ws bytes : List ℕ} → Joined (events t) (m′ .cuts) (a .«cut_nodes») (a .«cut_root») true ws bytes
+      → (l : List Set) → ((S : Set) → In S l → Within (events t) S) → bytes ≡ setsBytes (events t) l → l ≡ setsOf (den (m′ .cuts) (a .«cut_root»))
+  list-no-other j l w e = bytes-tell (events t) l (setsOf (den (m′ .cuts) (a .«cut_root»))) w
+      (λ S h. sets-beyond 0 (events t) (den (m′ .cuts) (a .«cut_root»)) S (root-ordered (d .cut-table .lent)) h) (sym e ∙ join-all j)
 
   -- ---- BRACKET never answers 12, and answers 0 where chances and areas are right
   module _ {A L H L′ H′ : List ℕ} {number lo hi : ℕ} where

@@ -1,23 +1,29 @@
--- What a done analysis says of the gates: theorems over the contract of `analyse` alone.
+-- What the numbers of a done analysis say: theorems over the contract of `analyse` alone.
 -- Assumes nothing.
-use mathlib.Core.Path.{_≡_, refl, sym, ap, _∙_}
+use mathlib.Core.Path.{_≡_, refl, sym, ap, _∙_, subst}
 use mathlib.Core.Logic.{_↔_}
-use mathlib.Core.Bool.{false}
+use mathlib.Core.Bool.{true, false}
 use mathlib.Core.List.{List, [], _∷_, _++_}
 use Prim.Native.Nat.{ℕ, suc, _+_, _-_, _≤_, _<_}
 use native.Mathlib.Omega.{arith}
 use lib.ListN.{length, getD, length-append}
-use Rattle.paper.specs.Lists.{lastOr}
-use Rattle.paper.specs.Sets.{Set}
+use Rattle.paper.specs.Lists.{In, lastOr}
+use Rattle.paper.specs.Sets.{Set, Within}
 use Rattle.paper.specs.Functions.{Fun}
 use Rattle.paper.specs.Trees.{Gate, Tree, events, constF, gateFun, gateFunsFrom, gateFuns, rootFun}
 use Rattle.paper.specs.Diagrams.{eval}
-use Rattle.algebra.proofs.Plain.{Good, canonical}
+use Rattle.paper.specs.Cuts.{setsOf}
+use Rattle.algebra.specs.Families.{holds}
+use Rattle.algebra.proofs.Kind.{table-inj}
+use Rattle.algebra.proofs.Plain.{plain, Good, canonical}
+use Rattle.algebra.proofs.Without.{Tidy}
+use Rattle.algebra.proofs.Zero.{suppressed, sets-hold, hold-sets}
+use Rattle.algebra.proofs.Listing.{trim-whole}
 use Rattle.tables.specs.Table.{den}
-use Rattle.tables.proofs.Lent.{lent-lower}
+use Rattle.tables.proofs.Lent.{lent-lower, lent-ordered, lent-suppressed}
 use Rattle.tables.proofs.Once.{den-inj, lent-good}
 use Rattle.analyser.specs.Memory.{Memory}
-use Rattle.analyser.specs.Analysed.{Done}
+use Rattle.analyser.specs.Analysed.{functionOf, familyOf, Done}
 use Rattle.analyser.specs.declared.Analysis.{Analysis}
 
 -- ---- the last gate's function is the root's
@@ -44,10 +50,29 @@ module _ {t : Tree} {m m′ : Memory} {a : Analysis} (d : Done t m m′ a) where
   pub root-function : 1 ≤ length (t .gates) → eval (den (m′ .nodes) (a .root)) ≡ rootFun (t .gates)
   root-function some = ap (λ r. eval (den (m′ .nodes) r)) (d .root-is) ∙ d .gate-list .shows (length (t .gates) - 1) (omega arith) ∙ last-gate (t .gates)
 
+  -- ONE NUMBER FOR ONE FUNCTION, and for one family
+  pub functions-apart : (i j : ℕ) → i < a .nodes + 2 → j < a .nodes + 2 → functionOf (events t) (m′ .nodes) i ≡ functionOf (events t) (m′ .nodes) j → i ≡ j
+  functions-apart i j h k e = den-inj (lent-lower (d .node-table .lent)) (d .node-table .unique) h k
+      (table-inj (events t) (plain (events t)) (den (m′ .nodes) i) (den (m′ .nodes) j) (lent-good (d .node-table .lent) (d .node-table .unique) i h) (lent-good (d .node-table .lent) (d .node-table .unique) j k) e)
+
+  tidy : (i : ℕ) → i < a .«cut_nodes» + 2 → Tidy 0 (events t) (den (m′ .cuts) i)
+  tidy i h = (lent-ordered (d .cut-table .lent) h, lent-suppressed (d .cut-table .lent) h)
+
+  pub families-apart : (i j : ℕ) → i < a .«cut_nodes» + 2 → j < a .«cut_nodes» + 2 → familyOf (events t) (m′ .cuts) i ≡ familyOf (events t) (m′ .cuts) j → i ≡ j
+  families-apart i j h k e = den-inj (lent-lower (d .cut-table .lent)) (d .cut-table .unique) h k
+      (table-inj (events t) (suppressed (events t)) (den (m′ .cuts) i) (den (m′ .cuts) j) (tidy i h) (tidy j k) e)
+
+  -- a number's family is true at the sets that it denotes
+  pub family-sets : (i : ℕ) → i < a .«cut_nodes» + 2 → (S : Set) → Within (events t) S → (holds (events t) 0 (den (m′ .cuts) i) S ≡ true) ↔ In S (setsOf (den (m′ .cuts) i))
+  family-sets i h S w = (
+    (λ q. subst (λ U. In U (setsOf (den (m′ .cuts) i))) (trim-whole (events t) S w) (hold-sets (events t) 0 (events t) (omega arith) (den (m′ .cuts) i) (tidy i h .0) S q)),
+    (λ k. sets-hold (events t) 0 (events t) (omega arith) (den (m′ .cuts) i) (tidy i h .0) S k),
+  )
+
   good : (i : ℕ) → i < length (t .gates) → Good (events t) 0 (den (m′ .nodes) (getD (m′ .gates) i 0))
   good i h = lent-good (d .node-table .lent) (d .node-table .unique) (getD (m′ .gates) i 0) (d .gate-list .stored i h)
 
-  -- ONE NUMBER FOR ONE FUNCTION: two gates have the same number exactly when they agree on every set
+  -- so two gates have the same number exactly when they agree on every set
   pub gates-agree : (i j : ℕ) → i < length (t .gates) → j < length (t .gates)
       → (getD (m′ .gates) i 0 ≡ getD (m′ .gates) j 0) ↔ ((v : Set) → getD (gateFuns (t .gates)) i (constF false) v ≡ getD (gateFuns (t .gates)) j (constF false) v)
   gates-agree i j hi hj = (
