@@ -1,19 +1,17 @@
 -- TWO OUTCOMES COINCIDE: what the contract of `analyse` allows for some bytes and some memory is one answer and one memory after, up to the numbering of nodes.
 -- Assumes nothing.
-use mathlib.Core.Path.{_≡_, refl, sym, ap, _∙_, subst}
-use mathlib.Core.Logic.{_≢_, _⊎_, inl, inr, _↔_}
-use mathlib.Core.Bool.{Bool, true, false}
+use mathlib.Core.Path.{_≡_, sym, ap, _∙_, subst}
+use mathlib.Core.Logic.{_⊎_, inl, inr}
 use mathlib.Core.List.{List}
-use Prim.Native.Nat.{ℕ, _+_, _-_, _≤_, _<_}
+use Prim.Native.Nat.{ℕ, _-_, _≤_, _<_}
 use native.Mathlib.Omega.{arith}
 use lib.ListN.{length, getD}
 use Rattle.paper.specs.Answers.{Verdict, NodesFull, CutsFull}
 use Rattle.paper.specs.Limits.{limits}
 use Rattle.paper.specs.Lists.{In}
-use Rattle.paper.specs.Sets.{Set}
 use Rattle.paper.specs.Trees.{Tree, events}
-use Rattle.paper.specs.Diagrams.{Diagram, eval, Ordered}
-use Rattle.paper.specs.Cuts.{Denotes, setsOf, Suppressed}
+use Rattle.paper.specs.Diagrams.{Diagram, Ordered}
+use Rattle.paper.specs.Cuts.{setsOf, Suppressed}
 use Rattle.algebra.proofs.Plain.{Good, canonical}
 use Rattle.algebra.proofs.Order.{sets-complete}
 use Rattle.algebra.proofs.Families.{canonical-family}
@@ -25,8 +23,8 @@ use Rattle.records.specs.Answers.{verdict}
 use Rattle.records.specs.Judge.{Book, accept, refuse, outcome}
 use Rattle.records.specs.Trees.{treeOf}
 use Rattle.records.specs.declared.Answer.{Answer}
-use Rattle.analyser.specs.Memory.{Memory, Lengths, Zero, AllZero, capacity}
-use Rattle.analyser.specs.Analysed.{Refused, at, Done, Analysed}
+use Rattle.analyser.specs.Memory.{Memory, Lengths, AllZero, capacity}
+use Rattle.analyser.specs.Analysed.{Refused, Done, Analysed}
 use Rattle.analyser.specs.Coincide.{Renumbering, Renumbered, Coincide}
 use Rattle.analyser.specs.declared.Analysis.{Analysis}
 use Rattle.analyser.proofs.Refusals.{refusal-range}

@@ -5,6 +5,7 @@ pub mod Outcomes
 pub mod Refusals
 pub mod Renumbering
 pub mod Coincide
+pub mod Contents
 pub mod Which
 pub mod Promises
 pub mod Telling

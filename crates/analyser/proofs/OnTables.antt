@@ -1,9 +1,9 @@
 -- `list` and `bracket` on the tables of a done analysis.
 -- Assumes nothing.
-use mathlib.Core.Path.{_≡_, refl, sym, ap, _∙_, subst}
+use mathlib.Core.Path.{_≡_, sym, ap, _∙_, subst}
 use mathlib.Core.Logic.{_≢_, _↔_}
-use mathlib.Core.Bool.{Bool, true, false}
-use mathlib.Core.List.{List, map}
+use mathlib.Core.Bool.{Bool, true}
+use mathlib.Core.List.{List}
 use Prim.Native.Nat.{ℕ, _-_, _≤_, _<_}
 use native.Mathlib.Omega.{arith}
 use lib.ListN.{length, List·getD-map}
@@ -12,7 +12,6 @@ use Rattle.paper.specs.Lists.{In, Once}
 use Rattle.paper.specs.Sets.{Set, Part, Within}
 use Rattle.paper.specs.Functions.{dependsOn}
 use Rattle.paper.specs.Trees.{Tree, events, rootFun}
-use Rattle.paper.specs.Diagrams.{eval}
 use Rattle.paper.specs.Cuts.{MinimalCut, setsOf, cutList}
 use Rattle.paper.specs.Order.{Sorted, fromStart}
 use Rattle.paper.specs.Listing.{setsBytes}

@@ -1,6 +1,6 @@
 -- Bytes that are refused get a number from 1 to 8.
 -- Assumes nothing.
-use mathlib.Core.Path.{_≡_, refl, sym, _∙_, subst}
+use mathlib.Core.Path.{_≡_, refl, sym, subst}
 use mathlib.Core.List.{List}
 use Prim.Native.Nat.{ℕ, zero, suc, _+_, _≤_}
 use native.Mathlib.Omega.{arith}
@@ -8,11 +8,11 @@ use lib.Dec.{ltb, leb, eqb}
 use lib.ListN.{length, drop}
 use Rattle.paper.specs.Limits.{limits, billion}
 use Rattle.records.specs.Answers.{verdict}
-use Rattle.records.specs.Format.{recordOf, widthOf}
+use Rattle.records.specs.Format.{recordOf}
 use Rattle.records.specs.Rules.{wrongK, admitOf, stepOf}
 use Rattle.records.specs.Judge.{Book, start, counts, addEvent, addGate, addInput, Outcome, accept, refuse, unusedBy, closeOf, run, outcome}
 use Rattle.records.specs.declared.Answer.{Answer}
-use Rattle.records.specs.declared.Answer.the-variants.{Cut, Unused}
+use Rattle.records.specs.declared.Answer.the-variants.{Unused}
 use Rattle.records.specs.declared.format.Record.{Record}
 use Rattle.records.specs.declared.format.Record.the-variants.{Missing, Unknown, Short, Event, Gate, EventInput, GateInput, End}
 use Rattle.records.specs.declared.judge.State.{State}

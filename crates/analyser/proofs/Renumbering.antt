@@ -1,10 +1,10 @@
 -- Two tables of the same functions, or of the same families, are one table under other numbers.
 -- Assumes nothing.
-use mathlib.Core.Path.{_≡_, sym, ap, _∙_, subst}
+use mathlib.Core.Path.{_≡_, sym, ap, _∙_}
 use mathlib.Core.Logic.{_⊎_, inl, inr}
 use mathlib.Core.Bool.{Bool, true, false, true≢false}
 use mathlib.Core.List.{List}
-use Prim.Native.Nat.{ℕ, zero, suc, _+_, _-_, _*_, _≤_, _<_}
+use Prim.Native.Nat.{ℕ, zero, suc, _+_, _-_, _≤_, _<_}
 use native.Mathlib.Omega.{arith}
 use lib.ListN.{length}
 use Rattle.paper.specs.Diagrams.{Diagram, node}
@@ -13,7 +13,7 @@ use Rattle.algebra.proofs.Kind.{table-inj}
 use Rattle.algebra.proofs.Plain.{plain}
 use Rattle.algebra.proofs.Zero.{suppressed}
 use Rattle.tables.specs.Table.{eventOf, failedOf, soundOf, den}
-use Rattle.tables.specs.Stored.{Lower, Unique}
+use Rattle.tables.specs.Stored.{Lower}
 use Rattle.tables.proofs.Den.{den-0, den-1, den-node}
 use Rattle.tables.proofs.Lent.{lent-lower, lent-ordered, lent-suppressed}
 use Rattle.tables.proofs.Once.{den-inj, lent-good}

@@ -1,16 +1,16 @@
 -- A LISTING IN CALLS comes to its end: from the beginning, each call from the last set before, in rooms with enough bytes for any set.
 -- Assumes nothing.
-use mathlib.Core.Path.{_≡_, refl, sym, ap, _∙_, subst}
+use mathlib.Core.Path.{_≡_, refl, sym, _∙_, subst}
 use mathlib.Core.Logic.{_⊎_, inl, inr}
 use mathlib.Core.Bool.{Bool, true, false, false≢true}
-use mathlib.Core.List.{List, [], _∷_, _++_}
-use Prim.Native.Nat.{ℕ, _+_, _*_, _≤_, _<_}
+use mathlib.Core.List.{List, [], _∷_}
+use Prim.Native.Nat.{ℕ, _+_, _*_, _≤_}
 use native.Mathlib.Omega.{arith}
 use lib.ListN.{length}
 use Rattle.paper.specs.Lists.{In, lastOr}
 use Rattle.paper.specs.Sets.{Set, none}
 use Rattle.paper.specs.Sets as sets
-use Rattle.paper.specs.Diagrams.{Diagram, Ordered}
+use Rattle.paper.specs.Diagrams.{Diagram}
 use Rattle.paper.specs.Cuts.{setsOf}
 use Rattle.paper.specs.Order.{behind}
 use Rattle.paper.specs.Listing.{fitting}
@@ -21,7 +21,6 @@ use Rattle.sets.specs.Words.{setOf}
 use Rattle.tables.specs.Table.{den}
 use Rattle.tables.specs.Lent.{Lent}
 use Rattle.tables.proofs.Lent.{root-ordered}
-use Rattle.store.proofs.Denotes.{below-or-not}
 use Rattle.listing.specs.Answers.{startOf, Within, toList, Short, Answered}
 use Rattle.listing.proofs.Join.{fitting-split}
 use Rattle.analyser.proofs.Telling.{set-size}
