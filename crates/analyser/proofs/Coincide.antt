@@ -178,3 +178,7 @@ module _ {bytes : List ℕ} {m m₁ m₂ : Memory} {a₁ a₂ : Analysis} where
   coincide (Analysed.done b p n f g r) (Analysed.nodes-full c q n′ f′ s l) = absurd (f (full (same-book bytes p q) m f′))
   coincide (Analysed.done b p n f g r) (Analysed.cuts-full c q n′ f′ g′ s l) = absurd (g (cuts-full (same-book bytes p q) m g′))
   coincide (Analysed.done b p n f g r) (Analysed.done c q n′ f′ g′ s) = Coincide.done (r .number) (done-renumbered r (finished (same-book bytes p q) m s))
+
+pub same-number : {m m′ : Memory} {a a′ : Analysis} → Coincide m m′ a a′ → a′ .number ≡ a .number
+same-number (Coincide.refused n e k) = ap (λ (x : Analysis). x .number) e
+same-number (Coincide.done n r) = r .number

@@ -7,6 +7,7 @@ pub mod Renumbering
 pub mod Coincide
 pub mod Contents
 pub mod Which
+pub mod Unseen
 pub mod Promises
 pub mod Telling
 pub mod Serving

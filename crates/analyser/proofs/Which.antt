@@ -14,10 +14,9 @@ use Rattle.records.specs.Trees.{treeOf}
 use Rattle.records.specs.declared.Answer.{Answer}
 use Rattle.analyser.specs.Memory.{Memory, Lengths, AllZero, capacity}
 use Rattle.analyser.specs.Analysed.{Refused, at, Done, Analysed}
-use Rattle.analyser.specs.Coincide.{Coincide}
 use Rattle.analyser.specs.declared.Analysis.{Analysis}
 use Rattle.analyser.proofs.Refusals.{OneToEight, refusal-range}
-use Rattle.analyser.proofs.Coincide.{same-answer, same-book, not-both, coincide}
+use Rattle.analyser.proofs.Coincide.{same-answer, same-book, not-both, coincide, same-number}
 
 -- the bytes are refused with this number and place
 pub record BadTree (bytes : List ℕ) (number place : ℕ) : Type 0 where
@@ -69,10 +68,6 @@ zeroed m = record {
 all-zeroed : (m : Memory) → AllZero m (zeroed m)
 unfolding zeroed empty
 all-zeroed m = record { nodes = refl; cuts = refl; gates = refl; memo = refl; heads = refl; next = refl; marks = refl; own = refl }
-
-same-number : {m m′ : Memory} {a a′ : Analysis} → Coincide m m′ a a′ → a′ .number ≡ a .number
-same-number (Coincide.refused n e k) = ap (λ (x : Analysis). x .number) e
-same-number (Coincide.done n r) = r .number
 
 -- ---- what a number says
 
