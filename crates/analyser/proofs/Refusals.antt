@@ -2,7 +2,7 @@
 -- Assumes nothing.
 use mathlib.Core.Path.{_≡_, refl, sym, subst}
 use mathlib.Core.List.{List}
-use Prim.Native.Nat.{ℕ, zero, suc, _+_, _≤_}
+use Prim.Native.Nat.{ℕ, zero, suc, _+_}
 use native.Mathlib.Omega.{arith}
 use lib.Dec.{ltb, leb, eqb}
 use lib.ListN.{length, drop}
@@ -21,10 +21,8 @@ use Rattle.records.specs.declared.judge.Step.the-variants.{AddEvent, AddGate, A
 use Rattle.records.specs.declared.uses.Found.{Found}
 use Rattle.records.specs.declared.uses.Found.the-variants.{At, Nothing}
 use Rattle.records.proofs.Cases.{if-elim}
+use Rattle.analyser.specs.Reasons.{OneToEight}
 use Rattle.records.proofs.Runs.{run-event, run-gate, run-input, run-close, run-refused}
-
-abbrev pub OneToEight : ℕ → Type 0
-OneToEight k = (1 ≤ k) × (k ≤ 8)
 
 -- what a step, or a reading, says if it refuses
 abbrev InRange : Step → Type 0

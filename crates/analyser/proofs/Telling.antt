@@ -2,17 +2,17 @@
 -- Assumes nothing.
 use mathlib.Core.Path.{_≡_, refl, sym, ap₂, _∙_, subst, fun-ext}
 use mathlib.Core.Logic.{_⊎_, inl, inr}
-use mathlib.Core.Bool.{Bool, true, false, cond}
+use mathlib.Core.Bool.{true}
 use mathlib.Core.List.{List, [], _∷_, _++_, map, nil≢cons, cons≢nil, head-eq-of-cons-eq, tail-eq-of-cons-eq}
 use Prim.Native.Nat.{ℕ, zero, suc, _+_, _*_, _≤_, _<_}
 use native.Mathlib.Omega.{arith}
 use lib.ListN.{length}
-use Rattle.paper.specs.Lists.{In, keep, upTo}
+use Rattle.paper.specs.Lists.{In, upTo}
 use Rattle.paper.specs.Sets.{Set, Within, members}
 use Rattle.paper.specs.Listing.{memberBytes, cutBytes, setBytes, setsBytes}
 use Rattle.algebra.proofs.Base.{Three, below, beyond, equal, three}
 use Rattle.algebra.proofs.Lists.{bool-iff, in-keep, keep-in}
-use Rattle.sets.proofs.Count.{cut-length}
+use Rattle.sets.proofs.Count.{count-le, cut-length}
 use Rattle.store.proofs.Denotes.{below-or-not}
 
 -- ---- the bytes tell the members
@@ -74,17 +74,5 @@ bytes-tell n k l a b e = same-list n k l a b (sets-tell n k l e)
 
 -- ---- a set of n events has at most 2 n + 1 bytes
 
-keep-le : (t : ℕ → Bool) (xs : List ℕ) → length (keep t xs) ≤ length xs
-keep-le t [] = omega arith
-keep-le t (x ∷ xs) = go (t x) (keep-le t xs)
-  where
-    go : (b : Bool) → length (keep t xs) ≤ length xs → length (cond b (x ∷ keep t xs) (keep t xs)) ≤ suc (length xs)
-    go true h = omega arith
-    go false h = omega arith
-
-up-length : (k m : ℕ) → length (upTo k m) ≡ k
-up-length zero m = refl
-up-length (suc k) m = let e = up-length k (suc m) in omega arith
-
 pub set-size : (n : ℕ) (S : Set) → length (setBytes n S) ≤ 2 * n + 1
-set-size n S = let l = cut-length (members n S) in let k = keep-le S (upTo n 0) in let u = up-length n 0 in omega arith
+set-size n S = let l = cut-length (members n S) in let k = count-le S n 0 in omega arith
