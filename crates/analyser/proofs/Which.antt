@@ -78,20 +78,16 @@ module _ {bytes : List ℕ} {m m′ : Memory} {a : Analysis} where
   from-eleven (Analysed.cuts-full b p n f g r k) q = (record { book = b; is = p }, n, f, g)
   from-eleven (Analysed.done b p n f g r) q = absurd (let e = r .number in omega arith)
 
-  from-done : Analysed bytes m m′ a → a .number ≡ 0 → (t : Accepted bytes) × Long t m × (TooManyNodes t m → ⊥) × (TooManyCuts t m → ⊥)
+  -- and a done analysis leaves its tables
+  from-done : Analysed bytes m m′ a → a .number ≡ 0 → (t : Accepted bytes) × Long t m × (TooManyNodes t m → ⊥) × (TooManyCuts t m → ⊥) × Done (treeOf (t .book)) m m′ a
   from-done (Analysed.bad-tree w p r k) q = absurd (let e = r .number in let (l, h) = refusal-range bytes w p in omega arith)
   from-done (Analysed.bad-length b p n r k) q = absurd (let e = r .number in omega arith)
   from-done (Analysed.nodes-full b p n f r k) q = absurd (let e = r .number in omega arith)
   from-done (Analysed.cuts-full b p n f g r k) q = absurd (let e = r .number in omega arith)
-  from-done (Analysed.done b p n f g r) q = (record { book = b; is = p }, n, f, g)
+  from-done (Analysed.done b p n f g r) q = (record { book = b; is = p }, n, f, g, r)
 
-  -- and of a done analysis what it leaves
   pub finished-tree : Analysed bytes m m′ a → a .number ≡ 0 → (t : Accepted bytes) × Done (treeOf (t .book)) m m′ a
-  finished-tree (Analysed.bad-tree w p r k) q = absurd (let e = r .number in let (l, h) = refusal-range bytes w p in omega arith)
-  finished-tree (Analysed.bad-length b p n r k) q = absurd (let e = r .number in omega arith)
-  finished-tree (Analysed.nodes-full b p n f r k) q = absurd (let e = r .number in omega arith)
-  finished-tree (Analysed.cuts-full b p n f g r k) q = absurd (let e = r .number in omega arith)
-  finished-tree (Analysed.done b p n f g r) q = (record { book = b; is = p }, r)
+  finished-tree x q = let (t, n, f, g, d) = from-done x q in (t, d)
 
   to-done : Analysed bytes m m′ a → ((t : Accepted bytes) × Long t m × (TooManyNodes t m → ⊥) × (TooManyCuts t m → ⊥)) → a .number ≡ 0
   to-done (Analysed.bad-tree w p r k) (t, l, g, z) = absurd (not-both bytes p (t .is))
@@ -131,4 +127,4 @@ module _ {bytes : List ℕ} {m m′ : Memory} {a : Analysis} (x : Analysed bytes
 
   -- 0 exactly when nothing refuses
   pub zero-when : (a .number ≡ 0) ↔ ((t : Accepted bytes) × Long t m × (TooManyNodes t m → ⊥) × (TooManyCuts t m → ⊥))
-  zero-when = (from-done x, to-done x)
+  zero-when = ((λ q. let (t, n, f, g, d) = from-done x q in (t, n, f, g)), to-done x)
