@@ -1,6 +1,7 @@
 //! Listing and bracket of any lent diagram, against the second program.
 
 use crate::bracket::bracket;
+use crate::compare::no_fault;
 use crate::generator;
 use crate::lent::Lent;
 use crate::library::*;
@@ -32,7 +33,7 @@ pub fn compare_list(library: &dyn Library, diagram: &Lent, random: &mut Random, 
 }
 
 /// Answers the last set if the call is done and something follows.
-fn one_listing(
+pub fn one_listing(
     library: &dyn Library,
     diagram: &Lent,
     after: Option<Set>,
@@ -41,13 +42,14 @@ fn one_listing(
     tally: &mut Tally,
     from: &str,
 ) -> Option<Set> {
-    tally.input = match from {
+    tally.note(|| match from {
         "" => format!("{diagram:?} after {after:?} room {room_length}"),
         bytes => format!("{bytes} after {after:?} room {room_length}"),
-    };
+    });
     let expected = list(diagram, after, room_length);
     let mut room = Guarded::new((0..room_length).map(|_| random.byte()).collect(), 0x5A);
     let got = library.list(diagram, after, room.lend());
+    no_fault(library, tally);
     let used = expected.bytes.len();
     let answer = ListAnswer {
         number: expected.number,
@@ -98,14 +100,15 @@ pub fn compare_bracket(
             lengths[place] = smallest[place] - 1;
             suffice = false;
         }
-        tally.input = match before.as_str() {
+        tally.note(|| match before.as_str() {
             "" => format!("{diagram:?} chances {chances:?} areas {lengths:?}"),
             bytes => format!("{bytes} chances {chances:?} areas {lengths:?}"),
-        };
+        });
         let mut areas =
             lengths.map(|length| Guarded::new((0..length).map(|_| random.next() as u32).collect(), 0xDEAD_BEEF));
         let expected = bracket(diagram, &chances, suffice);
         let got = library.bracket(diagram, &chances, areas.each_mut().map(Guarded::lend));
+        no_fault(library, tally);
         let answer = BracketAnswer { number: expected.number, low: expected.low, high: expected.high };
         tally.due("bracket", answer.number);
         tally.same("bracket", answer, got);
