@@ -281,8 +281,12 @@ fn compare_uses(
     tally: &mut Tally,
 ) {
     let event_count = done.tree.event_count;
-    let lent = |sort, table: &[u32], node_count, root: u32| {
-        Lent { sort, event_count, table: table.to_vec(), node_count, root: root as u64 }
+    let lent = |sort, table: &[u32], node_count, root: u32| Lent {
+        sort,
+        event_count,
+        table: table.to_vec(),
+        node_count,
+        root: root as u64,
     };
     let function = lent(Sort::Function, nodes, got.nodes, got.root);
     let family = lent(Sort::Cuts, cuts, got.cut_nodes, got.cut_root);

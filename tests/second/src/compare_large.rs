@@ -75,7 +75,9 @@ fn compare_longest_tables(library: &dyn Library, random: &mut Random, tally: &mu
     or(&mut tree, &[first, second]);
     let bytes = write(&tree).expect("case 1 is accepted");
     let most = MOST_NUMBERS;
-    for (node_table, cut_table) in [(most, most), (most, 12), (18, most), (most + 3, 12), (18, most + 3), (most - 1, most)] {
+    for (node_table, cut_table) in
+        [(most, most), (most, 12), (18, most), (most + 3, 12), (18, most + 3), (most - 1, most)]
+    {
         let work = library.smallest_areas(node_table / 3, cut_table / 3);
         let lengths = Lengths { node_table, cut_table, gate_list: 3, memo: 4, areas_suffice: true };
         compare_analysis_in(library, &bytes, lengths, work, random, tally);

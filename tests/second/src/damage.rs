@@ -306,8 +306,10 @@ pub fn raw_bytes(tree: &Tree) -> Vec<u8> {
 fn tree_without_plan(random: &mut Random) -> Tree {
     let (events, gates) = (random.between(1, 4), random.between(1, 4));
     let chances = (0..events).map(|_| random.of(&[0, 1, D, D + 1])).collect();
-    let gate = |random: &mut Random| {
-        Gate { kind: random.between(1, 5) as u32, k: random.below(4) as u32, n: random.below(4) as u32 }
+    let gate = |random: &mut Random| Gate {
+        kind: random.between(1, 5) as u32,
+        k: random.below(4) as u32,
+        n: random.below(4) as u32,
     };
     let all: Vec<Gate> = (0..gates).map(|_| gate(random)).collect();
     let input = |random: &mut Random| match random.once_in(3) {

@@ -218,7 +218,9 @@ impl Arrays {
         let (events, gates) = (events as usize, gates as usize);
         let (chances, behind) = self.chances.split_at_checked(events)?;
         let clean = |array: &[u8]| array.get(gates..).is_some_and(|behind| behind.iter().all(|&number| number == 0));
-        if behind.iter().any(|&chance| chance != 0) || ![&self.kinds, &self.leasts, &self.sizes].into_iter().all(|a| clean(a)) {
+        if behind.iter().any(|&chance| chance != 0)
+            || ![&self.kinds, &self.leasts, &self.sizes].into_iter().all(|a| clean(a))
+        {
             return None;
         }
         let gate = |place: usize| Gate {
@@ -249,9 +251,11 @@ impl Library for Driver {
     }
 
     fn read(&self, bytes: &[u8]) -> ReadAnswer {
-        let lent = Arrays::dirty(bytes.iter().fold(bytes.len() as u64, |seed, &byte| seed.wrapping_mul(31) + byte as u64));
+        let lent =
+            Arrays::dirty(bytes.iter().fold(bytes.len() as u64, |seed, &byte| seed.wrapping_mul(31) + byte as u64));
         let mut arrays = lent.clone();
-        let request = Request::of(READ).bytes(bytes).numbers(&arrays.chances).bytes(&arrays.kinds).bytes(&arrays.leasts);
+        let request =
+            Request::of(READ).bytes(bytes).numbers(&arrays.chances).bytes(&arrays.kinds).bytes(&arrays.leasts);
         let request = request.bytes(&arrays.sizes).halves(&arrays.inputs);
         let [number, place, events, gates] = self.ask(
             request,
@@ -307,7 +311,8 @@ impl Library for Driver {
     }
 
     fn bracket(&self, diagram: &Lent, chances: &[u32], work: [&mut [u32]; 2]) -> BracketAnswer {
-        let request = Request::of(BRACKET).numbers(&diagram.table).number(diagram.event_count).number(diagram.node_count);
+        let request =
+            Request::of(BRACKET).numbers(&diagram.table).number(diagram.event_count).number(diagram.node_count);
         let request = request.number(diagram.root).numbers(chances);
         let [lows, highs] = work;
         let request = request.numbers(lows).numbers(highs);

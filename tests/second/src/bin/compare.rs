@@ -41,6 +41,7 @@ fn main() {
             println!("{}", tally.first_difference.take().unwrap_or_default());
         }
     }
+    drop(library);
     println!("{}\n{}", tally.reach(), tally.line());
     std::process::exit(i32::from(tally.failed > 0));
 }
