@@ -39,6 +39,7 @@ pub fn compare_input(library: &dyn Library, seed: u64, tally: &mut Tally) {
             let shape = match random.below(60) {
                 0 => longest_shape(),
                 1 | 2 => large_shape(random),
+                3 => return compare_tree(library, &generator::narrow_tree(random), random, tally),
                 _ => middle_shape(random),
             };
             compare_tree(library, &generator::tree(random, shape), random, tally);
@@ -174,6 +175,11 @@ fn lengths(library: &dyn Library, need: &Result<Analysis, Refusal>, random: &mut
     (Lengths { node_table, cut_table, gate_list, memo, areas_suffice }, work)
 }
 
+/// Whether both tables have room for just the nodes that are needed.
+fn exactly(done: &Analysis, lengths: Lengths) -> bool {
+    lengths.node_table == 3 * done.robdd.nodes.count() && lengths.cut_table == 3 * done.cuts.nodes.count()
+}
+
 /// What lent memory holds at entry: anything, small numbers among it that could pass for nodes.
 fn dirty(random: &mut Random, length: usize) -> Guarded<u32> {
     let small = random.below(3);
@@ -202,6 +208,12 @@ pub fn compare_analysis_in(
 ) {
     let expected = analyse(bytes, lengths);
     tally.due("analyse", expected.as_ref().map_or_else(|refusal| refusal.number, |_| 0));
+    if let Ok(done) = &expected {
+        tally.meet("tables exactly full", exactly(done, lengths));
+        tally.meet("analyses without a memo", lengths.memo == 0);
+        tally.meet("with one quadruple", lengths.memo == 4);
+        tally.meet("with 10,000 quadruples", lengths.memo >= 40_000);
+    }
     let mut nodes = dirty(random, lengths.node_table);
     let mut cuts = dirty(random, lengths.cut_table);
     let mut gates = dirty(random, lengths.gate_list);
@@ -238,6 +250,7 @@ pub fn compare_analysis_in(
             tally.holds("memo and work areas end zero", all[3..].iter().all(|area| area.all(0)));
             tally.large("events analysed", done.tree.event_count);
             tally.large("gates analysed", done.tree.gate_count);
+            tally.large("inputs analysed", done.tree.inputs.len() as u64);
             tally.large("nodes", counts.2);
             tally.large("cut nodes", counts.3);
             tally.large("memo", lengths.memo as u64);

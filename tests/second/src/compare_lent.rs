@@ -59,6 +59,14 @@ pub fn one_listing(
         finished: expected.finished,
     };
     tally.due("list", answer.number);
+    if answer.number == 0 {
+        tally.meet("listings from the beginning", after.is_none());
+        tally.meet("after a set", after.is_some());
+        tally.meet("of no cut", answer.written == 0);
+        tally.meet("unfinished", !answer.finished);
+        tally.meet("into a room that is just full", used == room_length && used > 0);
+        tally.meet("of 20 cuts or more", answer.written >= 20);
+    }
     tally.same("listing", answer, got);
     tally.holds("guards of a listing", room.guards_stand());
     let whole = [&expected.bytes[..], &room.before()[used..]].concat();

@@ -2,7 +2,6 @@
 
 use crate::lent::Lent;
 use crate::library::*;
-use crate::random::Random;
 use crate::sets::Set;
 use crate::tree::*;
 use std::cell::{Cell, RefCell};
@@ -181,12 +180,15 @@ struct Arrays {
 impl Arrays {
     /// Anything at all.
     fn dirty(seed: u64) -> Arrays {
-        let random = &mut Random::new(seed);
-        let mut bytes = |length: usize| -> Vec<u8> { (0..length).map(|_| random.byte()).collect() };
-        let (kinds, leasts, sizes) = (bytes(MOST_GATES), bytes(MOST_GATES), bytes(MOST_GATES));
-        let chances = (0..MOST_EVENTS).map(|_| random.next() as u32).collect();
-        let inputs = (0..MOST_INPUTS).map(|_| random.next() as u16).collect();
-        Arrays { chances, kinds, leasts, sizes, inputs }
+        let dirt = |place: usize| seed.wrapping_add(place as u64).wrapping_mul(0x9E37_79B9_7F4A_7C15) >> 32;
+        let bytes = |more: usize| -> Vec<u8> { (0..MOST_GATES).map(|gate| dirt(gate + more) as u8).collect() };
+        Arrays {
+            chances: (0..MOST_EVENTS).map(|event| dirt(event) as u32).collect(),
+            kinds: bytes(0),
+            leasts: bytes(1_000),
+            sizes: bytes(2_000),
+            inputs: (0..MOST_INPUTS).map(|input| dirt(input) as u16).collect(),
+        }
     }
 
     /// A tree with dirt behind what it tells: its counts may exceed its lists, as everywhere here, and then stand for
@@ -251,8 +253,8 @@ impl Library for Driver {
     }
 
     fn read(&self, bytes: &[u8]) -> ReadAnswer {
-        let lent =
-            Arrays::dirty(bytes.iter().fold(bytes.len() as u64, |seed, &byte| seed.wrapping_mul(31) + byte as u64));
+        let seed = bytes.iter().fold(0u64, |seed, &byte| seed.wrapping_mul(31).wrapping_add(byte as u64));
+        let lent = Arrays::dirty(seed);
         let mut arrays = lent.clone();
         let request =
             Request::of(READ).bytes(bytes).numbers(&arrays.chances).bytes(&arrays.kinds).bytes(&arrays.leasts);

@@ -10,6 +10,8 @@ pub struct Tally {
     pub first_difference: Option<String>,
     /// How often each call was due to answer each number: what the inputs reach.
     pub due: BTreeMap<(&'static str, u32), u64>,
+    /// How often the inputs met something worth meeting.
+    pub met: BTreeMap<&'static str, u64>,
     /// The largest of each kind of thing that the inputs brought.
     pub largest: BTreeMap<&'static str, u64>,
     /// The input at hand, for the report: its name or its seed, and what it is where details are wanted.
@@ -30,6 +32,10 @@ impl Tally {
         if self.detailed {
             self.input = text();
         }
+    }
+
+    pub fn meet(&mut self, what: &'static str, met: bool) {
+        *self.met.entry(what).or_default() += u64::from(met);
     }
 
     pub fn large(&mut self, what: &'static str, size: u64) {
@@ -66,8 +72,11 @@ impl Tally {
         for ((call, number), times) in &self.due {
             *lines.entry(call).or_insert(format!("{call}:")) += &format!(" {number}:{times}");
         }
-        let largest = self.largest.iter().map(|(what, size)| format!(" {what} {size}")).collect::<Vec<_>>().join(",");
-        lines.into_values().chain([format!("largest:{largest}")]).collect::<Vec<_>>().join("\n")
+        let all = |named: &BTreeMap<&str, u64>| {
+            named.iter().map(|(what, n)| format!(" {what} {n}")).collect::<Vec<_>>().join(",")
+        };
+        let more = [format!("met:{}", all(&self.met)), format!("largest:{}", all(&self.largest))];
+        lines.into_values().chain(more).collect::<Vec<_>>().join("\n")
     }
 
     pub fn line(&self) -> String {
