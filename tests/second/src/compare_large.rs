@@ -15,12 +15,15 @@ use crate::tree::*;
 
 pub fn compare_large(library: &dyn Library, tally: &mut Tally) {
     let random = &mut Random::new(0);
+    tally.detailed = true;
     compare_named(library, "European 1", &european_1(), random, tally);
     compare_named(library, "a small city", &city(city::SMALL).tree, random, tally);
     compare_named(library, "a middle city", &city(city::MIDDLE).tree, random, tally);
     compare_named(library, "a large city", &city(city::LARGE).tree, random, tally);
     compare_longest_bytes(library, random, tally);
     compare_longest_tables(library, random, tally);
+    // These are too long to be told.
+    tally.detailed = false;
     compare_largest_diagrams(library, random, tally);
     tally.name = None;
 }
@@ -92,6 +95,7 @@ fn compare_longest_tables(library: &dyn Library, random: &mut Random, tally: &mu
 
 /// Lent diagrams of up to a million nodes, and a table that is too long.
 fn compare_largest_diagrams(library: &dyn Library, random: &mut Random, tally: &mut Tally) {
+    tally.input.clear();
     tally.name = Some("lent diagrams of many nodes");
     for sort in [Sort::Function, Sort::Cuts] {
         for length in [MOST_NUMBERS, MOST_NUMBERS + 3] {
