@@ -76,8 +76,8 @@ pub fn head(text: &mut [u8; ROOM], events: usize, gates: usize, nodes: usize) ->
 }
 
 // The line behind the cuts.
-pub fn top(text: &mut [u8; ROOM], low: u32, high: u32) -> usize
+pub fn top(text: &mut [u8; ROOM], low: u64, high: u64) -> usize
     ensures { λ r. ⌜ Front r (now (text .exit)) (topText low high) ⌝ }
 {
-    put_pair(text, b"top ", low as u64, b" ", high as u64)
+    put_pair(text, b"top ", low, b" ", high)
 }
