@@ -9,10 +9,10 @@ use native.Mathlib.Omega.{arith}
 use lib.ListN.{length, getD}
 use borrow.Author.Tests.{lt-leb, leb-false}
 use lib.Dec.{leb, leb·zero, leb·suc-zero, leb·suc-suc}
-use Rattle.paper.specs.Lists.{In, upTo}
+use Rattle.paper.specs.Lists.{In}
 use Rattle.paper.specs.Sets.{Set, none}
 use Rattle.paper.specs.Functions.{Fun, Monotone}
-use Rattle.paper.specs.Trees.{Input, event, gate, Gate, andG, orG, leastG, eventF, constF, countFails, gateFuns, InputsBelow, GateBelow, TreeBelow, everyFails, someFails}
+use Rattle.paper.specs.Trees.{Input, event, gate, Gate, andG, orG, leastG, eventF, constF, countFails, InputsBelow, GateBelow, TreeBelow, everyFails, someFails}
 use Rattle.paper.specs.Steps.{joinFrom, joinAll, joinSteps, joinAllSteps, least, leastSteps, input, value, eventSteps, steps, valuesFrom, stepsFrom, join, joinF, stepFuns}
 use Rattle.paper.specs.Nodes.{nodesNeeded}
 use Rattle.paper.specs.Diagrams.{Diagram, leaf, eval}

@@ -4,10 +4,6 @@ use Rattle.paper.specs.Flat.{gatesOf}
 use Rattle.build.proofs.Sofar.{sofar-cleared, same-room}
 use Rattle.build.proofs.build.Statement.{statement}
 use Rattle.build.proofs.build.Tie as tie
-use Rattle.build.proofs.build.Reads as reads
-use Rattle.build.proofs.build.Lts as lts
-use Rattle.build.proofs.build_gates.Reads as build-gates-reads
-use Rattle.store.proofs.clear.Reads as clear-reads
 
 clear-requires : tie.Need-clear-requires
 clear-requires c κs = search needs

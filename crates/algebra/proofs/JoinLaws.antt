@@ -1,26 +1,16 @@
 -- Joining commutes, a reduced diagram joined with itself is itself, and a leaf decides or is passed over.
 -- Assumes nothing.
 use mathlib.Core.Path.{_≡_, refl, sym, ap₂, _∙_}
-use mathlib.Core.Bool.{Bool, true, false, not, cond, Bool·beq}
+use mathlib.Core.Bool.{Bool, true, false, not}
 use Prim.Native.Nat.{ℕ, _≤_, _<_}
 use native.Mathlib.Omega.{arith}
 use borrow.Author.Tests.{lt-ltb, le-ltb}
 use Rattle.paper.specs.Diagrams.{Diagram, leaf, node, Reduced, mkD}
 use Rattle.algebra.specs.Operations.{joinD}
 use Rattle.algebra.proofs.Base.{Three, below, beyond, equal, three, mk-node}
+use Rattle.algebra.proofs.Join.{join-leaf}
 
 -- ---- a leaf
-
-join-leaf : (z c : Bool) (d : Diagram) → joinD z d (leaf c) ≡ cond (Bool·beq c z) (leaf z) d
-join-leaf true true (leaf true) = refl
-join-leaf true true (leaf false) = refl
-join-leaf true false (leaf true) = refl
-join-leaf true false (leaf false) = refl
-join-leaf false true (leaf true) = refl
-join-leaf false true (leaf false) = refl
-join-leaf false false (leaf true) = refl
-join-leaf false false (leaf false) = refl
-join-leaf z c (node e f s) = refl
 
 pub join-decides : (z : Bool) (g : Diagram) → joinD z (leaf z) g ≡ leaf z
 join-decides true g = refl
