@@ -1,16 +1,16 @@
 -- What a done analysis of a tree's bytes leaves can be bracketed and listed.
 -- Assumes nothing.
-use mathlib.Core.Path.{_≡_, refl, sym, ap, _∙_, subst}
+use mathlib.Core.Path.{_≡_, sym, ap, _∙_, subst}
 use mathlib.Core.Bool.{true, false}
 use mathlib.Core.List.{List}
-use Prim.Native.Nat.{ℕ, _≤_, _<_}
+use Prim.Native.Nat.{ℕ}
 use native.Mathlib.Omega.{arith}
-use lib.ListN.{length, getD, List·getD-map}
-use Rattle.paper.specs.Limits.{limits, billion}
+use lib.ListN.{length, List·getD-map}
+use Rattle.paper.specs.Limits.{limits}
 use Rattle.paper.specs.Trees.{events}
 use Rattle.tables.specs.Lent.{Lent}
 use Rattle.records.specs.Answers.{verdict}
-use Rattle.records.specs.Judge.{Book, Outcome, accept, refuse, outcome}
+use Rattle.records.specs.Judge.{Book, accept, refuse, outcome}
 use Rattle.records.specs.Memory.{noEvent, memory, inMemory}
 use Rattle.records.specs.Trees.{Lawful, treeOf}
 use Rattle.records.specs.declared.Answer.{Answer}
@@ -25,7 +25,7 @@ use Rattle.analyser.specs.Memory.{Memory}
 use Rattle.analyser.specs.Analysed as an
 use Rattle.analyser.specs.declared.Analysis.{Analysis}
 use Rattle.analyser.proofs.Outcomes.{done-of}
-use Rattle.calls.specs.Tops.{chancesOf, Priced, Held}
+use Rattle.calls.specs.Tops.{chancesOf, Held}
 
 -- ---- the tree in memory
 

@@ -2,15 +2,14 @@
 -- Assumes nothing.
 use mathlib.Core.Path.{_≡_, refl, sym, ap, _∙_, subst}
 use mathlib.Core.Bool.{Bool, true, false, true≢false}
-use mathlib.Core.List.{List, [], _∷_, _++_}
-use Prim.Native.Nat.{ℕ, _+_, _*_, _≤_, _<_}
+use mathlib.Core.List.{List, [], _∷_}
+use Prim.Native.Nat.{ℕ, _≤_, _<_}
 use native.Mathlib.Omega.{arith}
 use lib.ListN.{length, drop, length-append}
 use Rattle.paper.specs.Limits.{limits}
 use Rattle.paper.specs.Sets.{Set, members}
 use Rattle.paper.specs.Diagrams.{Diagram}
 use Rattle.paper.specs.Listing.{setsBytes, fitting}
-use Rattle.paper.specs.Answers.{Beyond}
 use Rattle.sets.specs.Words.{setOf}
 use Rattle.sets.proofs.Count.{count-le, cut-length}
 use Rattle.tables.specs.Table.{den}

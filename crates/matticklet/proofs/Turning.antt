@@ -1,14 +1,14 @@
 -- From a room to a page, and from page to page.
 -- Assumes nothing.
 use mathlib.Core.Path.{_≡_, refl, sym, ap, ap₂, _∙_, subst}
-use mathlib.Core.Bool.{Bool, true, false}
+use mathlib.Core.Bool.{Bool, true}
 use mathlib.Core.List.{List, [], _∷_, _++_, append-assoc, append-nil}
-use Prim.Native.Nat.{ℕ, _<_}
-use lib.ListN.{length, take}
+use Prim.Native.Nat.{ℕ}
+use lib.ListN.{take}
 use Rattle.paper.specs.Sets.{Set, members}
 use Rattle.paper.specs.Trees.{Tree, events, rootFun}
 use Rattle.paper.specs.Diagrams.{Diagram}
-use Rattle.paper.specs.Cuts.{setsOf, cutList}
+use Rattle.paper.specs.Cuts.{cutList}
 use Rattle.tables.specs.Table.{den}
 use Rattle.listing.specs.Answers.{toList}
 use Rattle.analyser.specs.Memory.{Memory}

@@ -1,8 +1,6 @@
 // The program: reads a tree from standard input, and writes its counts, its cuts and its top's bracket, or one line of refusal.
 use analyser::Analysis;
 use records::Tree;
-ghost use mathlib.Core.Bool.{true};
-ghost use Rattle.tables.specs.Lent.{Lent};
 ghost use Rattle.calls.specs.Tops.{Held};
 
 mod pages; // pages.rt: the lines of the cuts, one room after another

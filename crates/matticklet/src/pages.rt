@@ -1,9 +1,5 @@
 // The lines of the cuts, one room after another.
-use listing::Listed;
 ghost use mathlib.Core.Bool.{true};
-ghost use mathlib.Core.Path.{_≡_};
-ghost use Prim.Native.Nat.{_≤_};
-ghost use lib.ListN.{length};
 ghost use Rattle.tables.specs.Table.{den};
 ghost use Rattle.tables.specs.Lent.{Lent};
 ghost use Rattle.listing.specs.Answers.{Within};

@@ -6,8 +6,6 @@ use Prim.Native.Nat.{_-_}
 use Rattle.calls.proofs.Tops.{Gathered, gather-none, gather-more, gather-end}
 use Rattle.calls.proofs.chances_of.Statement.{statement}
 use Rattle.calls.proofs.chances_of.Tie as tie
-use Rattle.calls.proofs.chances_of.Reads as reads
-use Rattle.calls.proofs.chances_of.Lts as lts
 
 abbrev Inv-loop : tie.InvT-loop
 Inv-loop tree out₀ i₀ out i = Gathered (tree .events) out i
@@ -15,39 +13,30 @@ Inv-loop tree out₀ i₀ out i = Gathered (tree .events) out i
 abbrev μ-loop : tie.MeasureT-loop
 μ-loop tree out₀ i₀ out i = 256 - i
 
--- src/lib.rt:40:5
 loop-holds : tie.Need-loop-holds Inv-loop μ-loop
 loop-holds c = gather-none (c .args .t1 .events) _ (c .pre) refl
 
--- src/lib.rt:41:17
 mul-e : tie.Need-mul-e Inv-loop μ-loop
 mul-e c = search needs
 
--- src/lib.rt:41:17
 element-copy-out-e : tie.Need-element-copy-out-e Inv-loop μ-loop
 element-copy-out-e c = omega (arith, c .before .loop .inv .all)
 
--- src/lib.rt:42:9
 mul-out : tie.Need-mul-out Inv-loop μ-loop
 mul-out c = search needs
 
--- src/lib.rt:42:9
 array-write-out : tie.Need-array-write-out Inv-loop μ-loop
 array-write-out c = omega (arith, c .before .before .loop .inv .long)
 
--- src/lib.rt:43:9
 add-i : tie.Need-add-i Inv-loop μ-loop
 add-i c = search needs
 
--- src/lib.rt:40:5
 loop-less : tie.Need-loop-less Inv-loop μ-loop
 loop-less c = search needs
 
--- src/lib.rt:40:5
 loop-again : tie.Need-loop-again Inv-loop μ-loop
 loop-again c = gather-more (c .before .before .loop .inv) (c .before .loop-test .taken)
 
--- src/lib.rt:34:1
 returns : tie.Need-returns Inv-loop μ-loop
 returns c = gather-end (c .before .loop .inv) (c .loop-test .left)
 

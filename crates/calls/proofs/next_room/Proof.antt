@@ -3,19 +3,13 @@ use borrow.Author.Needs.{needs}
 use Rattle.calls.proofs.Rooms.{never-refused}
 use Rattle.calls.proofs.next_room.Statement.{statement}
 use Rattle.calls.proofs.next_room.Tie as tie
-use Rattle.calls.proofs.next_room.Reads as reads
-use Rattle.calls.proofs.next_room.Lts as lts
-use Rattle.analyser.proofs.list.Reads as list-reads
 
--- src/lib.rt:31:5
 list-requires : tie.Need-list-requires
 list-requires c κs = search needs
 
--- src/lib.rt:17:1
 same-length : tie.Need-same-length
 same-length c = search needs
 
--- src/lib.rt:17:1
 returns : tie.Need-returns
 returns c = never-refused (c .before .before .before .before .before .before .pre .0) (c .before .before .before .before .before .before .pre .1 .0) (c .before .before .before .before .before .before .pre .1 .1) (c .before .before .list .ensures)
 

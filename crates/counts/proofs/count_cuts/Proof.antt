@@ -1,7 +1,7 @@
 -- `counts::count_cuts` meets its contract. Assumes nothing.
 use borrow.Author.Needs.{needs}
 use native.Mathlib.Omega.{arith}
-use mathlib.Core.Path.{refl, sym, _∙_}
+use mathlib.Core.Path.{refl, sym}
 use lib.ListN.{length}
 use Rattle.tables.specs.Table.{den}
 use Rattle.listing.specs.Answers.{toList}

@@ -7,44 +7,31 @@ use Rattle.text.proofs.Putting.{put-long, put-then, put-counts}
 use Rattle.text.proofs.Decimals.{line-long}
 use Rattle.text.proofs.head.Statement.{statement}
 use Rattle.text.proofs.head.Tie as tie
-use Rattle.text.proofs.head.Reads as reads
-use Rattle.text.proofs.head.Lts as lts
-use Rattle.text.proofs.put.Reads as put-reads
-use Rattle.text.proofs.put_line.Reads as put-line-reads
 
--- src/lib.rt:72:31
 slice-aggregate-put-line : tie.Need-slice-aggregate-put-line
 slice-aggregate-put-line c = search needs
 
--- src/lib.rt:72:9
 put-line-requires : tie.Need-put-line-requires
 put-line-requires c κs = search needs
 
--- src/lib.rt:73:31
 slice-aggregate-put-line-2 : tie.Need-slice-aggregate-put-line-2
 slice-aggregate-put-line-2 c = search needs
 
--- src/lib.rt:73:9
 put-line-requires-2 : tie.Need-put-line-requires-2
 put-line-requires-2 c κs = omega (arith, c .before .before .put-line .ensures .to, line-long eventsWord (c .before .before .before .before .before .args .events), put-long (c .before .before .put-line .ensures))
 
--- src/lib.rt:74:31
 slice-aggregate-put-line-3 : tie.Need-slice-aggregate-put-line-3
 slice-aggregate-put-line-3 c = search needs
 
--- src/lib.rt:74:9
 put-line-requires-3 : tie.Need-put-line-requires-3
 put-line-requires-3 c κs = omega (arith, c .before .before .before .before .before .put-line .ensures .to, c .before .before .put-line2 .ensures .to, line-long eventsWord (c .before .before .before .before .before .before .before .before .args .events), line-long gatesWord (c .before .before .before .before .before .before .before .before .args .gates), put-long (c .before .before .before .before .before .put-line .ensures), put-long (c .before .before .put-line2 .ensures))
 
--- src/lib.rt:75:18
 slice-aggregate-put : tie.Need-slice-aggregate-put
 slice-aggregate-put c = search needs
 
--- src/lib.rt:75:5
 put-requires : tie.Need-put-requires
 put-requires c κs = omega (arith, c .before .before .before .before .before .before .before .before .put-line .ensures .to, c .before .before .before .before .before .put-line2 .ensures .to, c .before .before .put-line3 .ensures .to, line-long eventsWord (c .before .before .before .before .before .before .before .before .before .before .before .args .events), line-long gatesWord (c .before .before .before .before .before .before .before .before .before .before .before .args .gates), line-long nodesWord (c .before .before .before .before .before .before .before .before .before .before .before .args .nodes), put-long (c .before .before .before .before .before .before .before .before .put-line .ensures), put-long (c .before .before .before .before .before .put-line2 .ensures), put-long (c .before .before .put-line3 .ensures))
 
--- src/lib.rt:69:1
 returns : tie.Need-returns
 returns c = put-counts (put-then (put-then (put-then (c .before .before .before .before .before .before .before .before .before .put-line .ensures) (c .before .before .before .before .before .before .put-line2 .ensures)) (c .before .before .before .put-line3 .ensures)) (c .put .ensures)) refl
 

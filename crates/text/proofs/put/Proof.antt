@@ -2,12 +2,10 @@
 use borrow.Author.Needs.{needs}
 use native.Mathlib.Omega.{arith}
 use Prim.Native.Nat.{_-_}
-use lib.ListN.{length, length-set}
+use lib.ListN.{length}
 use Rattle.text.proofs.Putting.{Copied, copy-none, copy-long, copy-more, copy-end}
 use Rattle.text.proofs.put.Statement.{statement}
 use Rattle.text.proofs.put.Tie as tie
-use Rattle.text.proofs.put.Reads as reads
-use Rattle.text.proofs.put.Lts as lts
 
 abbrev Inv-loop : tie.InvT-loop
 Inv-loop text₀ at s i₀ text i = Copied text₀ at s text i
@@ -15,43 +13,33 @@ Inv-loop text₀ at s i₀ text i = Copied text₀ at s text i
 abbrev μ-loop : tie.MeasureT-loop
 μ-loop text₀ at s i₀ text i = length s - i
 
--- src/lib.rt:19:5
 loop-holds : tie.Need-loop-holds Inv-loop μ-loop
 loop-holds c = copy-none (c .args .text .now) (c .args .at) (c .args .s .now) (c .pre)
 
--- src/lib.rt:20:24
 shared-slice-read-text : tie.Need-shared-slice-read-text Inv-loop μ-loop
 shared-slice-read-text c = search needs
 
--- src/lib.rt:20:14
 add-text : tie.Need-add-text Inv-loop μ-loop
 add-text c = search needs
 
--- src/lib.rt:20:9
 slice-write-text : tie.Need-slice-write-text Inv-loop μ-loop
 slice-write-text c = omega (arith, copy-long (c .before .before .loop .inv), c .before .before .loop .inv .fits)
 
--- src/lib.rt:21:9
 add-i : tie.Need-add-i Inv-loop μ-loop
 add-i c = search needs
 
--- src/lib.rt:19:5
 loop-less : tie.Need-loop-less Inv-loop μ-loop
 loop-less c = search needs
 
--- src/lib.rt:19:5
 loop-again : tie.Need-loop-again Inv-loop μ-loop
 loop-again c = copy-more (c .before .before .loop .inv) (c .before .loop-test .taken)
 
--- src/lib.rt:23:5
 add-result : tie.Need-add-result Inv-loop μ-loop
 add-result c = search needs
 
--- src/lib.rt:14:1
 same-length : tie.Need-same-length Inv-loop μ-loop
 same-length c = copy-long (c .before .loop .inv)
 
--- src/lib.rt:14:1
 returns : tie.Need-returns Inv-loop μ-loop
 returns c = copy-end (c .before .loop .inv) (c .loop-test .left)
 

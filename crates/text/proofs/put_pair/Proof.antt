@@ -5,40 +5,28 @@ use Rattle.text.proofs.Putting.{put-long, put-then}
 use Rattle.text.proofs.Decimals.{decimal-long}
 use Rattle.text.proofs.put_pair.Statement.{statement}
 use Rattle.text.proofs.put_pair.Tie as tie
-use Rattle.text.proofs.put_pair.Reads as reads
-use Rattle.text.proofs.put_pair.Lts as lts
-use Rattle.text.proofs.put.Reads as put-reads
-use Rattle.text.proofs.put_number.Reads as put-number-reads
 
--- src/lib.rt:54:9
 put-requires : tie.Need-put-requires
 put-requires c κs = search needs
 
--- src/lib.rt:55:9
 put-number-requires : tie.Need-put-number-requires
 put-number-requires c κs = search needs
 
--- src/lib.rt:56:9
 put-requires-2 : tie.Need-put-requires-2
 put-requires-2 c κs = omega (arith, c .before .before .before .before .before .before .before .put .ensures .to, c .before .before .before .put-number .ensures .to, decimal-long (c .before .before .before .before .before .before .before .before .before .before .before .before .args .a), put-long (c .before .before .before .before .before .before .before .put .ensures), put-long (c .before .before .before .put-number .ensures), c .before .before .before .before .before .before .before .before .before .before .before .before .pre)
 
--- src/lib.rt:57:9
 put-number-requires-2 : tie.Need-put-number-requires-2
 put-number-requires-2 c κs = omega (arith, c .before .before .before .before .before .before .before .before .before .before .before .put .ensures .to, c .before .before .before .before .before .before .before .put-number .ensures .to, c .before .before .before .put2 .ensures .to, decimal-long (c .before .before .before .before .before .before .before .before .before .before .before .before .before .before .before .before .args .a), put-long (c .before .before .before .before .before .before .before .before .before .before .before .put .ensures), put-long (c .before .before .before .before .before .before .before .put-number .ensures), put-long (c .before .before .before .put2 .ensures), c .before .before .before .before .before .before .before .before .before .before .before .before .before .before .before .before .pre)
 
--- src/lib.rt:58:21
 slice-aggregate-put : tie.Need-slice-aggregate-put
 slice-aggregate-put c = search needs
 
--- src/lib.rt:58:5
 put-requires-3 : tie.Need-put-requires-3
 put-requires-3 c κs = omega (arith, c .before .before .before .before .before .before .before .before .before .before .before .before .before .before .before .before .put .ensures .to, c .before .before .before .before .before .before .before .before .before .before .before .before .put-number .ensures .to, c .before .before .before .before .before .before .before .before .put2 .ensures .to, c .before .before .before .before .put-number2 .ensures .to, decimal-long (c .before .before .before .before .before .before .before .before .before .before .before .before .before .before .before .before .before .before .before .before .before .args .a), decimal-long (c .before .before .before .before .before .before .before .before .before .before .before .before .before .before .before .before .before .before .before .before .before .args .b), put-long (c .before .before .before .before .before .before .before .before .before .before .before .before .before .before .before .before .put .ensures), put-long (c .before .before .before .before .before .before .before .before .before .before .before .before .put-number .ensures), put-long (c .before .before .before .before .before .before .before .before .put2 .ensures), put-long (c .before .before .before .before .put-number2 .ensures), c .before .before .before .before .before .before .before .before .before .before .before .before .before .before .before .before .before .before .before .before .before .pre)
 
--- src/lib.rt:50:1
 same-length : tie.Need-same-length
 same-length c = search needs
 
--- src/lib.rt:50:1
 returns : tie.Need-returns
 returns c = put-then (put-then (put-then (put-then (c .before .before .before .before .before .before .before .before .before .before .before .before .before .before .before .before .before .before .before .put .ensures) (c .before .before .before .before .before .before .before .before .before .before .before .before .before .before .before .put-number .ensures)) (c .before .before .before .before .before .before .before .before .before .before .before .put2 .ensures)) (c .before .before .before .before .before .before .before .put-number2 .ensures)) (c .before .before .put3 .ensures)
 

@@ -3,7 +3,7 @@ use borrow.Author.Needs.{needs}
 use native.Mathlib.Omega.{arith}
 use Prim.Native.Nat.{ℕ}
 use lib.ListN.{length-replicate}
-use mathlib.Core.Path.{sym, _∙_}
+use mathlib.Core.Path.{sym}
 use Rattle.matticklet.proofs.Turning.{room-page}
 use Rattle.matticklet.proofs.pages.page.Statement.{statement}
 use Rattle.matticklet.proofs.pages.page.Tie as tie

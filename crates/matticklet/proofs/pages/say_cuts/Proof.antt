@@ -1,8 +1,6 @@
 -- `matticklet::pages::say_cuts` meets its contract. Assumes nothing.
 use borrow.Author.Needs.{needs}
-use native.Mathlib.Omega.{arith}
 use mathlib.Core.Bool.{true≢false}
-use mathlib.Core.Path.{sym}
 use lib.ListN.{length}
 use Rattle.tables.specs.Table.{den}
 use Rattle.listing.specs.Answers.{toList, Within}

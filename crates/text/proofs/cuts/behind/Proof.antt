@@ -4,38 +4,28 @@ use mathlib.Core.Path.{sym}
 use Rattle.text.proofs.Spelling.{kind-from, kind-behind, end-from, end-behind}
 use Rattle.text.proofs.cuts.behind.Statement.{statement}
 use Rattle.text.proofs.cuts.behind.Tie as tie
-use Rattle.text.proofs.cuts.behind.Reads as reads
-use Rattle.text.proofs.cuts.behind.Lts as lts
 
--- src/cuts.rt:45:16
 enum-told : tie.Need-enum-told
 enum-told c = search needs
 
--- src/cuts.rt:46:17
 returns : tie.Need-returns
 returns c = sym (kind-from (c .before .before .before .args .b) (c .if1 .taken) (c .before .enum-told .given .1))
 
--- src/cuts.rt:50:25
 enum-told-2 : tie.Need-enum-told-2
 enum-told-2 c = search needs
 
--- src/cuts.rt:52:16
 enum-told-3 : tie.Need-enum-told-3
 enum-told-3 c = search needs
 
--- src/cuts.rt:53:17
 returns-2 : tie.Need-returns-2
 returns-2 c = sym (kind-behind (c .before .before .before .args .b) (c .if2 .taken) (c .before .enum-told3 .given .1))
 
--- src/cuts.rt:40:1
 returns-3 : tie.Need-returns-3
 returns-3 c = sym (end-from (c .before .before .before .args .b) (c .if1 .left) (c .before .enum-told .given .1))
 
--- src/cuts.rt:40:1
 returns-4 : tie.Need-returns-4
 returns-4 c = search needs
 
--- src/cuts.rt:40:1
 returns-5 : tie.Need-returns-5
 returns-5 c = sym (end-behind (c .before .before .before .args .b) (c .if2 .left) (c .before .enum-told3 .given .1))
 

@@ -6,10 +6,6 @@ use Rattle.text.proofs.Putting.{put-long}
 use Rattle.text.proofs.Spelling.{Spelt, spell-none, spell-room, spell-more, spell-end}
 use Rattle.text.proofs.cuts.spell.Statement.{statement}
 use Rattle.text.proofs.cuts.spell.Tie as tie
-use Rattle.text.proofs.cuts.spell.Reads as reads
-use Rattle.text.proofs.cuts.spell.Lts as lts
-use Rattle.text.proofs.cuts.behind.Reads as behind-reads
-use Rattle.text.proofs.cuts.put_byte.Reads as put-byte-reads
 
 abbrev Inv-loop : tie.InvT-loop
 Inv-loop room used text₀ place₀ at₀ i₀ text place at i = Spelt room used text₀ text place at i
@@ -17,39 +13,30 @@ Inv-loop room used text₀ place₀ at₀ i₀ text place at i = Spelt room used
 abbrev μ-loop : tie.MeasureT-loop
 μ-loop room used text₀ place₀ at₀ i₀ text place at i = used - i
 
--- src/cuts.rt:68:5
 loop-holds : tie.Need-loop-holds Inv-loop μ-loop
 loop-holds c = spell-none (c .before .before .args .room .now) (c .before .before .args .used) (c .before .before .args .text .now) (c .before .before .pre)
 
--- src/cuts.rt:69:17
 shared-slice-read-b : tie.Need-shared-slice-read-b Inv-loop μ-loop
 shared-slice-read-b c = omega (arith, c .before .before .loop .inv .inside)
 
--- src/cuts.rt:70:9
 put-byte-requires : tie.Need-put-byte-requires Inv-loop μ-loop
 put-byte-requires c κs = omega (arith, spell-room (c .before .before .before .loop .inv) (c .before .before .loop-test .taken), put-long (c .before .before .before .loop .inv .put))
 
--- src/cuts.rt:71:9
 behind-requires : tie.Need-behind-requires Inv-loop μ-loop
 behind-requires c κs = search needs
 
--- src/cuts.rt:72:9
 add-i : tie.Need-add-i Inv-loop μ-loop
 add-i c = search needs
 
--- src/cuts.rt:68:5
 loop-less : tie.Need-loop-less Inv-loop μ-loop
 loop-less c = search needs
 
--- src/cuts.rt:68:5
 loop-again : tie.Need-loop-again Inv-loop μ-loop
 loop-again c = spell-more (c .before .before .before .before .before .before .before .loop .inv) (c .before .before .before .before .before .before .loop-test .taken) (omega (arith, c .before .before .before .before .before .before .before .before .before .shared-slice-known .given (c .before .before .before .before .before .before .before .loop .i))) (c .before .before .before .put-byte .ensures) (c .behind .ensures)
 
--- src/cuts.rt:61:1
 same-length : tie.Need-same-length Inv-loop μ-loop
 same-length c = put-long (c .before .loop .inv .put)
 
--- src/cuts.rt:61:1
 returns : tie.Need-returns Inv-loop μ-loop
 returns c = spell-end (c .before .loop .inv) (c .loop-test .left)
 
