@@ -5,7 +5,6 @@ use mathlib.Core.Bool.{true, false}
 use mathlib.Core.List.{List}
 use Prim.Native.Nat.{ℕ}
 use native.Mathlib.Omega.{arith}
-use lib.ListN.{length, List·getD-map}
 use Rattle.paper.specs.Limits.{limits}
 use Rattle.paper.specs.Trees.{events}
 use Rattle.tables.specs.Lent.{Lent}
@@ -17,7 +16,7 @@ use Rattle.records.specs.declared.Answer.{Answer}
 use Rattle.records.specs.declared.Event.{Event}
 use Rattle.records.specs.declared.Reading.{Reading}
 use Rattle.records.specs.declared.Tree.{Tree}
-use Rattle.records.proofs.Pad.{pad-length, pad-getD}
+use Rattle.records.proofs.Pad.{pad-getD}
 use Rattle.records.proofs.Lawful.{lawful, tree-events}
 use Rattle.records.proofs.Promises.{done-is-good}
 use Rattle.bracket.specs.Bracketed.{Chances}
@@ -25,24 +24,23 @@ use Rattle.analyser.specs.Memory.{Memory}
 use Rattle.analyser.specs.Analysed as an
 use Rattle.analyser.specs.declared.Analysis.{Analysis}
 use Rattle.analyser.proofs.Outcomes.{done-of}
-use Rattle.calls.specs.Tops.{chancesOf, Held}
+use Rattle.arrays.specs.Chances.{chancesOf}
+use Rattle.arrays.proofs.Chances.{chance-at}
+use Rattle.calls.specs.Tops.{Held}
 
 -- ---- the tree in memory
 
 module _ {b : Book} (l : Lawful limits b) where
-  all-events : length (memory b .events) ≡ limits .events
-  unfolding memory
-  all-events = pad-length (limits .events) noEvent (b .events) (l .fewEvents)
-
   count-is : memory b .«event_count» ≡ events (treeOf b)
   unfolding memory
   count-is = sym (tree-events b)
 
-  chances-ok : Chances (memory b .«event_count») (chancesOf (memory b))
+  chances-ok : Chances (memory b .«event_count») (chancesOf (memory b .events))
   unfolding memory
   chances-ok = record {
     each = λ e h.
-        let m = List·getD-map (λ (x : Event). x .chance) (memory b .events) e noEvent in
+        let few = l .fewEvents in
+        let m = chance-at (memory b .events) e (omega arith) in
         let p = ap (λ (x : Event). x .chance) (pad-getD (limits .events) noEvent (b .events) e noEvent h) in
         let c = l .chances e h in
         omega arith;
@@ -52,7 +50,6 @@ module _ {b : Book} (l : Lawful limits b) where
   book-held {m′ = m′} {a} d = record {
     nodes = record {
       lent = subst (λ (n : ℕ). Lent false n (m′ .nodes) (a .nodes) (a .root)) (sym count-is) (d .node-table .lent);
-      long = all-events;
       chances = chances-ok;
     };
     cuts = subst (λ (n : ℕ). Lent true n (m′ .cuts) (a .«cut_nodes») (a .«cut_root»)) (sym count-is) (d .cut-table .lent);

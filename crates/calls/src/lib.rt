@@ -6,12 +6,11 @@ ghost use mathlib.Core.Path.{_≡_};
 ghost use mathlib.Core.Bool.{true};
 ghost use Prim.Native.Nat.{_≤_, _/_};
 ghost use lib.ListN.{length};
-ghost use Rattle.paper.specs.Limits.{limits};
 ghost use Rattle.tables.specs.Table.{den};
 ghost use Rattle.tables.specs.Lent.{Lent};
 ghost use Rattle.listing.specs.Answers.{Within};
 ghost use Rattle.calls.specs.Rooms.{longest, Next};
-ghost use Rattle.calls.specs.Tops.{chancesOf, Priced, Topped};
+ghost use Rattle.calls.specs.Tops.{Priced, Topped};
 
 // Lists the next cuts into a room that is long enough for any cut.
 pub fn next_room(
@@ -31,21 +30,6 @@ pub fn next_room(
     analyser::list(cuts, events, count, root, begin, s, room)
 }
 
-// The chances of a tree's events.
-fn chances_of(tree: Tree) -> [u32; paper::EVENTS]
-    requires { ⌜ length (tree .events) ≡ limits .events ⌝ }
-    ensures { λ r. ⌜ r ≡ chancesOf tree ⌝ }
-{
-    let mut out = [0u32; paper::EVENTS];
-    let mut i = 0;
-    while i < paper::EVENTS {
-        let e = tree.events[i];
-        out[i] = e.chance;
-        i += 1;
-    }
-    out
-}
-
 // Encloses the chance of a tree's root.
 pub fn top(
     tree: Tree,
@@ -60,6 +44,7 @@ pub fn top(
     ensures { λ r. ⌜ Topped tree (now (nodes .entry)) root (r .number) (r .low) (r .high) ⌝ }
 {
     let events = tree.event_count;
-    let chances = chances_of(tree);
+    let all = tree.events;
+    let chances = arrays::chances_of(all);
     analyser::bracket(nodes, events, count, root, &chances, lows, highs)
 }

@@ -14,7 +14,8 @@ use Rattle.records.specs.Memory.{inMemory}
 use Rattle.records.specs.declared.Answer.{Answer}
 use Rattle.records.specs.declared.Event.{Event}
 use Rattle.records.specs.declared.Reading.{Reading}
-use Rattle.exported.specs.Arrays.{Arrays, arrays, arraysOf, chancesOf, eventsOf, treeFrom, after}
+use Rattle.arrays.specs.Chances.{chancesOf, eventsOf}
+use Rattle.exported.specs.Arrays.{Arrays, arrays, arraysOf, treeFrom, after}
 use Rattle.exported.specs.Numbers.{ofReading, ofWriting}
 
 module _ (bytes : List ℕ) {r : Reading} (e : r ≡ inMemory (outcome limits bytes)) {n : ℕ} (q : n ≡ verdict (r .answer) .number) where

@@ -4,14 +4,10 @@ use mathlib.Core.Bool.{cond}
 use mathlib.Core.List.{List}
 use Prim.Native.Nat.{ℕ}
 use lib.Dec.{eqb}
-use lib.ListN.{getD}
-use Rattle.paper.specs.Limits.{limits}
 use Rattle.records.specs.Answers.{verdict}
-use Rattle.records.specs.Bytes.{tabulate}
-use Rattle.records.specs.Memory.{noEvent}
-use Rattle.records.specs.declared.Event.{Event}
 use Rattle.records.specs.declared.Reading.{Reading}
 use Rattle.records.specs.declared.Tree.{Tree}
+use Rattle.arrays.specs.Chances.{chancesOf, eventsOf}
 
 pub record Arrays : Type 0 where
   pub chances : List ℕ
@@ -22,13 +18,6 @@ pub record Arrays : Type 0 where
 
 abbrev pub arrays : List ℕ → List ℕ → List ℕ → List ℕ → List ℕ → Arrays
 arrays chances kinds leasts sizes inputs = record { chances = chances; kinds = kinds; leasts = leasts; sizes = sizes; inputs = inputs }
-
--- an array has an element for each event that a tree may have
-unfoldable pub chancesOf : List Event → List ℕ
-chancesOf events = tabulate (limits .events) (λ e. getD events e noEvent .chance)
-
-unfoldable pub eventsOf : List ℕ → List Event
-eventsOf chances = tabulate (limits .events) (λ e. record { chance = getD chances e 0 })
 
 abbrev pub arraysOf : Tree → Arrays
 arraysOf t = arrays (chancesOf (t .events)) (t .kinds) (t .leasts) (t .sizes) (t .inputs)

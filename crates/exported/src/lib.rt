@@ -1,6 +1,4 @@
 // The product's calls for other languages: numbers, slices (a pointer, then a length) and arrays (a pointer), the answer in a lent array.
-mod arrays; // a tree as five arrays of numbers
-
 use arrays::chances_of;
 use arrays::events_of;
 use paper::EVENTS;

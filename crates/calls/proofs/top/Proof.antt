@@ -5,7 +5,7 @@ use Rattle.calls.proofs.top.Statement.{statement}
 use Rattle.calls.proofs.top.Tie as tie
 
 chances-of-requires : tie.Need-chances-of-requires
-chances-of-requires c κs = c .before .before .before .pre .0 .long
+chances-of-requires c κs = search needs
 
 slice-aggregate-bracket : tie.Need-slice-aggregate-bracket
 slice-aggregate-bracket c = search needs
@@ -20,7 +20,7 @@ same-length-2 : tie.Need-same-length-2
 same-length-2 c = search needs
 
 returns : tie.Need-returns
-returns c = topped (c .before .before .before .before .before .before .before .before .before .before .before .before .pre .0) (c .before .before .before .before .before .before .before .before .before .before .before .before .pre .1) (c .before .before .before .before .before .before .before .before .chances-of .ensures) (c .before .before .before .before .bracket .ensures)
+returns c = topped (c .before .before .before .before .before .before .before .before .before .before .before .before .before .pre .0) (c .before .before .before .before .before .before .before .before .before .before .before .before .before .pre .1) (c .before .before .before .before .before .before .before .before .chances-of .ensures) (c .before .before .before .before .bracket .ensures)
 
 pub top-spec : {M : Type 1} → statement M
 top-spec =

@@ -1,8 +1,8 @@
-// The events of a tree as their chances, and back.
+// The events of a tree in memory as an array of their chances, and back.
 use paper::EVENTS;
 use records::Event;
 ghost use mathlib.Core.Path.{_≡_};
-ghost use Rattle.exported.specs.Arrays.{chancesOf, eventsOf};
+ghost use Rattle.arrays.specs.Chances.{chancesOf, eventsOf};
 
 // The chances of all events.
 pub fn chances_of(events: [Event; EVENTS]) -> [u32; EVENTS]

@@ -1,14 +1,14 @@
--- `exported::arrays::events_of` meets its contract. Assumes nothing.
+-- `arrays::events_of` meets its contract. Assumes nothing.
 use borrow.Author.Needs.{needs}
 use native.Mathlib.Omega.{arith}
 use mathlib.Core.Path.{refl}
 use Prim.Native.Nat.{_-_}
 use lib.ListN.{getD}
 use Rattle.records.specs.Memory.{noEvent}
-use Rattle.exported.specs.Arrays.{eventsOf}
-use Rattle.exported.proofs.Filling.{Filled, filled-none, filled-more, filled-all}
-use Rattle.exported.proofs.arrays.events_of.Statement.{statement}
-use Rattle.exported.proofs.arrays.events_of.Tie as tie
+use Rattle.arrays.specs.Chances.{eventsOf}
+use Rattle.arrays.proofs.Filling.{Filled, filled-none, filled-more, filled-all}
+use Rattle.arrays.proofs.events_of.Statement.{statement}
+use Rattle.arrays.proofs.events_of.Tie as tie
 
 abbrev Inv-loop : tie.InvT-loop
 Inv-loop chances events₀ i₀ events i = Filled (λ e. record { chance = getD chances e 0 }) noEvent 256 events i

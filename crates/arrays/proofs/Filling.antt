@@ -3,8 +3,10 @@
 use mathlib.Core.Path.{_≡_, refl, sym, ap, _∙_}
 use mathlib.Core.List.{List, [], _∷_, _++_, append-nil}
 use Prim.Native.Nat.{ℕ, zero, suc, _+_, _-_, _≤_, _<_}
+use native.Mathlib.Decide.{ℕ-discrete}
 use native.Mathlib.Omega.{arith}
-use lib.ListN.{length, set, replicate, length-append}
+use lib.ListN.{length, getD, set, replicate, length-append, List·getD-append}
+use lib.Seq.{getD-at}
 use Rattle.records.specs.Bytes.{tabulate}
 use Rattle.records.specs.Memory.{pad}
 use Rattle.records.proofs.Pad.{pad-fill}
@@ -16,10 +18,21 @@ pub record Filled {A : Type 0} (g : ℕ → A) (z : A) (n : ℕ) (ys : List A) (
   pub is : ys ≡ pad n z (tabulate i g)
 
 module _ {A : Type 0} (g : ℕ → A) where
-  tabulate-long : (n : ℕ) → length (tabulate n g) ≡ n
+  pub tabulate-long : (n : ℕ) → length (tabulate n g) ≡ n
   unfolding tabulate
   tabulate-long zero = refl
   tabulate-long (suc n) = length-append (tabulate n g) (g n ∷ []) ∙ ap (_+ 1) (tabulate-long n) ∙ omega arith
+
+  pub tabulate-at : (n i : ℕ) (d : A) → i < n → getD (tabulate n g) i d ≡ g i
+  unfolding tabulate
+  tabulate-at zero i d h = absurd (omega arith)
+  tabulate-at (suc n) i d h = go (ℕ-discrete i n) (tabulate-at n i d)
+    where
+      go : Dec (i ≡ n) → (i < n → getD (tabulate n g) i d ≡ g i) → getD (tabulate n g ++ (g n ∷ [])) i d ≡ g i
+      go (yes e) r = getD-at (tabulate n g) (g n) [] d i (tabulate-long n ∙ sym e) ∙ ap g (sym e)
+      go (no e) r =
+          let l = tabulate-long n in
+          List·getD-append (tabulate n g) (g n ∷ []) d i (omega arith) ∙ r (omega arith)
 
   module _ (z : A) {n : ℕ} {ys : List A} where
     pub filled-none : ys ≡ replicate n z → Filled g z n ys 0

@@ -1,14 +1,14 @@
--- `exported::arrays::chances_of` meets its contract. Assumes nothing.
+-- `arrays::chances_of` meets its contract. Assumes nothing.
 use borrow.Author.Needs.{needs}
 use native.Mathlib.Omega.{arith}
 use mathlib.Core.Path.{refl}
 use Prim.Native.Nat.{_-_}
 use lib.ListN.{getD}
 use Rattle.records.specs.Memory.{noEvent}
-use Rattle.exported.specs.Arrays.{chancesOf}
-use Rattle.exported.proofs.Filling.{Filled, filled-none, filled-more, filled-all}
-use Rattle.exported.proofs.arrays.chances_of.Statement.{statement}
-use Rattle.exported.proofs.arrays.chances_of.Tie as tie
+use Rattle.arrays.specs.Chances.{chancesOf}
+use Rattle.arrays.proofs.Filling.{Filled, filled-none, filled-more, filled-all}
+use Rattle.arrays.proofs.chances_of.Statement.{statement}
+use Rattle.arrays.proofs.chances_of.Tie as tie
 
 abbrev Inv-loop : tie.InvT-loop
 Inv-loop events chances₀ i₀ chances i = Filled (λ e. getD events e noEvent .chance) 0 256 chances i

@@ -1,0 +1,2 @@
+-- A tree's events as an array of chances.
+pub mod Chances
