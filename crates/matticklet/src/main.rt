@@ -21,10 +21,11 @@ fn say_refusal(number: u8, place: usize) {
     io::write_all(1, &line[..n]);
 }
 
-fn say_head(events: usize, gates: usize, nodes: usize) {
+// Whether the head could be written.
+fn say_head(events: usize, gates: usize, nodes: usize) -> bool {
     let mut lines = [0u8; text::ROOM];
     let n = text::head(&mut lines, events, gates, nodes);
-    io::write_all(1, &lines[..n]);
+    io::write_all(1, &lines[..n])
 }
 
 fn say_top(low: u64, high: u64) {
@@ -33,7 +34,7 @@ fn say_top(low: u64, high: u64) {
     io::write_all(1, &line[..n]);
 }
 
-// Writes what the tables of a done analysis hold.
+// Writes what the tables of a done analysis hold. The top comes only behind all cuts: a report without it is not whole.
 fn report(
     tree: Tree,
     a: Analysis,
@@ -45,8 +46,12 @@ fn report(
     requires { ⌜ Held tree (now nodes) (now cuts) a ⌝ }
 {
     let events = tree.event_count;
-    say_head(events, tree.gate_count, a.nodes);
-    pages::say_cuts(cuts, events, a.cut_nodes, a.cut_root);
+    if !say_head(events, tree.gate_count, a.nodes) {
+        return;
+    }
+    if !pages::say_cuts(cuts, events, a.cut_nodes, a.cut_root) {
+        return;
+    }
     let ends = calls::top(tree, nodes, a.nodes, a.root, lows, highs);
     say_top(ends.low, ends.high);
 }

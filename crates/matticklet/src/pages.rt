@@ -43,8 +43,8 @@ fn page(
     }
 }
 
-// Writes a line for each cut. It ends because the cuts that are left grow fewer; it stops where nothing more can be written.
-pub fn say_cuts(cuts: &[u32], events: usize, count: usize, root: usize)
+// Writes a line for each cut, and says whether all of them could be written. It ends because the cuts that are left grow fewer.
+pub fn say_cuts(cuts: &[u32], events: usize, count: usize, root: usize) -> bool
     requires { ⌜ Lent true events (now cuts) count root ⌝ }
 {
     let mut text = [0u8; TEXT];
@@ -54,10 +54,10 @@ pub fn say_cuts(cuts: &[u32], events: usize, count: usize, root: usize)
         let p = page(cuts, events, count, root, begin, s, &mut text);
         let n = p.text;
         if !io::write_all(1, &text[..n]) {
-            return;
+            return false;
         }
         if p.finished {
-            return;
+            return true;
         }
         begin = false;
         s = p.last;

@@ -7,24 +7,32 @@ use Rattle.matticklet.proofs.report.Tie as tie
 say-head-requires : tie.Need-say-head-requires
 say-head-requires c κs = search needs
 
+returns : tie.Need-returns
+returns c = search needs
+
 say-cuts-requires : tie.Need-say-cuts-requires
-say-cuts-requires c κs = c .before .before .pre .cuts
+say-cuts-requires c κs = c .before .before .before .pre .cuts
+
+returns-2 : tie.Need-returns-2
+returns-2 c = search needs
 
 top-requires : tie.Need-top-requires
-top-requires c κs = (c .before .before .before .before .before .before .pre .nodes, (omega arith, omega arith))
+top-requires c κs = (c .before .before .before .before .before .before .before .before .pre .nodes, (omega arith, omega arith))
 
 say-top-requires : tie.Need-say-top-requires
 say-top-requires c κs = search needs
 
-returns : tie.Need-returns
-returns c = search needs
+returns-3 : tie.Need-returns-3
+returns-3 c = search needs
 
 pub report-spec : {M : Type 1} → statement M
 report-spec =
     tie.close
     (tie.spec
     say-head-requires
+    returns
     say-cuts-requires
+    returns-2
     top-requires
     say-top-requires
-    returns)
+    returns-3)
