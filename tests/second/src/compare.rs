@@ -165,7 +165,11 @@ fn lengths(library: &dyn Library, need: &Result<Analysis, Refusal>, random: &mut
         _ => gates,
     };
     let smallest = library.smallest_areas(node_table / 3, cut_table / 3);
-    let mut work = smallest.map(|least| least + if random.once_in(3) { random.below(50) } else { 0 });
+    let mut work = smallest.map(|least| match random.below(300) {
+        0 => least + random.below(50_000),
+        1..=99 => least + random.below(50),
+        _ => least,
+    });
     let mut areas_suffice = true;
     let place = random.below(4);
     if random.once_in(20) && smallest[place] > 0 {
