@@ -152,10 +152,11 @@ fn lengths(library: &dyn Library, need: &Result<Analysis, Refusal>, random: &mut
         cut_table = 3_000_003;
     }
     let memo = match random.below(20) {
-        0 => random.below(40),
+        0 => 4 * random.below(10) + random.between(1, 3),
         1..=6 if nodes < 60 => 0,
         7..=9 if nodes < 300 => 4,
-        10..=12 => 4 * random.between(1, 100),
+        // A memo that is far too small makes a large diagram slow.
+        10..=12 => 4 * (nodes / 10 + random.between(1, 100)),
         13 if random.once_in(40) => 4 * random.between(10_000, 100_000),
         _ => 4 * random.between(1_000, 2_000),
     };
