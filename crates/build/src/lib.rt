@@ -211,7 +211,8 @@ fn build_gates(
     Finish::Complete(root, count)
 }
 
-// Builds the diagrams of all gates of a tree. What the memory holds at entry does not matter.
+// Builds the diagrams of all gates of a tree. What the memory holds at entry does not matter. A memo of no place gives way to one of a single place, so
+// that the recursion need not ask whether there is one.
 pub fn build(
     nodes: &mut [u32],
     heads: &mut [u32],
@@ -232,6 +233,20 @@ pub fn build(
     clear(heads);
     clear(memo);
     clear(gates);
+    if memo.len() < 4 {
+        let mut one = [0u32; 4];
+        return build_gates(
+            nodes,
+            heads,
+            next,
+            &mut one,
+            gates,
+            kinds,
+            leasts,
+            sizes,
+            inputs,
+        );
+    }
     build_gates(
         nodes,
         heads,

@@ -39,6 +39,7 @@ fn branches(e: u32, f1: u32, g1: u32, f0: u32, g0: u32) -> Parts
 
 // What is known without taking F and G apart: a leaf, or what the memo says.
 fn ask(memo: &[u32], f: u32, g: u32) -> Known
+    requires { ⌜ 4 ≤ length (now memo) ⌝ }
     ensures { λ r. ⌜ Asked (now (memo .entry)) f g r ⌝ }
 {
     if g == 1 {
@@ -309,7 +310,8 @@ fn cut_all(
     Built::Done(own[root], count)
 }
 
-// THE CUT TABLE of a node table's root, over whatever the lent memory holds: `next`, `marks` and `own` are work areas with a number for each node.
+// THE CUT TABLE of a node table's root, over whatever the lent memory holds: `next`, `marks` and `own` are work areas with a number for each node. A memo
+// of no place gives way to one of a single place, so that the recursion need not ask whether there is one.
 pub fn build_cuts(
     cut: &mut [u32],
     heads: &mut [u32],
@@ -330,5 +332,9 @@ pub fn build_cuts(
     mark(nodes, marks, root);
     own[0] = 0;
     own[1] = 1;
+    if memo.len() < 4 {
+        let mut one = [0u32; 4];
+        return cut_all(cut, heads, next, &mut one, own, nodes, marks, root);
+    }
     cut_all(cut, heads, next, memo, own, nodes, marks, root)
 }

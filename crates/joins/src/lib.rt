@@ -75,6 +75,7 @@ fn take_apart(nodes: &[u32], heads: &[u32], next: &[u32], count: usize, f: u32, 
 fn ask(memo: &[u32], z: u32, f: u32, g: u32) -> Known
     requires { ⌜ z < 2 ⌝ }
     requires { ⌜ f ≤ g ⌝ }
+    requires { ⌜ 4 ≤ length (now memo) ⌝ }
     ensures { λ r. ⌜ Asked (now (memo .entry)) z f g r ⌝ }
 {
     if f == g {

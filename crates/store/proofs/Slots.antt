@@ -23,7 +23,7 @@ scaled-below y (suc m) slots l q p = let z = scaled y (suc m) l (omega arith) in
 pub first-below : (e f s slots : ℕ) → 1 ≤ slots → firstSlot e f s slots < slots
 unfolding firstSlot
 first-below e f s slots l =
-    let y = (e * 7919 + f * 12582917 + s * 4256249) % 4294967296 * 2654435769 % 4294967296 in
+    let y = (e * 906908087 % 4294967296 + f * 1641373853 % 4294967296 + s * 2345438705 % 4294967296) % 4294967296 in
     scaled-below y (slots % 4294967296) slots (omega arith) (omega arith) l
 
 -- equal triples are sought from the same slot

@@ -45,8 +45,8 @@ store-cleared t h X a b d =
     let q = length-replicate {A = ℕ} h 0 in
     store-zero (replicate t 0) (replicate h 0) X (omega arith) (omega arith) (omega arith) (zero-at t) (zero-at h)
 
-pub memo-cleared : {P : ℕ → ℕ → ℕ → ℕ → Type 0} (n : ℕ) → Memo P (replicate n 0)
-memo-cleared n = record { each = λ j e. absurd (e (zero-at n (4 * j))) }
+pub memo-cleared : {P : ℕ → ℕ → ℕ → ℕ → Type 0} (n : ℕ) → 4 ≤ n → Memo P (replicate n 0)
+memo-cleared n l = record { some = let q = length-replicate {A = ℕ} n 0 in omega arith; each = λ j e. absurd (e (zero-at n (4 * j))) }
 
 -- ---- the loop that clears
 

@@ -32,8 +32,8 @@ pub fn first_slot(e: u32, failed: u32, sound: u32, slots: usize) -> usize
     let a = e as u64;
     let b = failed as u64;
     let c = sound as u64;
-    let x = (a * 7919 + b * 12582917 + c * 4256249) % 4294967296;
-    let y = x * 2654435769 % 4294967296;
+    let x = a * 906908087 % 4294967296 + b * 1641373853 % 4294967296;
+    let y = (x + c * 2345438705 % 4294967296) % 4294967296;
     let few = slots as u64 % 4294967296;
     (y * few / 4294967296) as usize
 }
@@ -168,11 +168,9 @@ pub fn make_z(
 
 // The place of an operation in the memo.
 fn place(memo: &[u32], op: u32, f: u32, g: u32) -> usize
+    requires { ⌜ 4 ≤ length (now memo) ⌝ }
     ensures { λ r. ⌜ Place (now (memo .entry)) r ⌝ }
 {
-    if memo.len() < 4 {
-        return 0;
-    }
     4 * first_slot(op, f, g, memo.len() / 4)
 }
 
@@ -181,9 +179,6 @@ fn hit(memo: &[u32], at: usize, op: u32, f: u32, g: u32) -> bool
     requires { ⌜ Place (now memo) at ⌝ }
     ensures { λ r. ⌜ (r ≡ true → There (now (memo .entry)) at op f g) ⌝ }
 {
-    if memo.len() < 4 {
-        return false;
-    }
     if memo[at] != op {
         return false;
     }
@@ -195,6 +190,7 @@ fn hit(memo: &[u32], at: usize, op: u32, f: u32, g: u32) -> bool
 
 // What the memo says of the operation.
 pub fn recall(memo: &[u32], op: u32, f: u32, g: u32) -> Known
+    requires { ⌜ 4 ≤ length (now memo) ⌝ }
     ensures { λ r. ⌜ Recalls (now (memo .entry)) op f g r ⌝ }
 {
     let at = place(memo, op, f, g);
@@ -209,9 +205,6 @@ pub fn keep(memo: &mut [u32], at: usize, op: u32, f: u32, g: u32, r: u32)
     requires { ⌜ Place (now memo) at ⌝ }
     ensures { λ _. ⌜ Keeps (now (memo .entry)) op f g r (now (memo .exit)) ⌝ }
 {
-    if memo.len() < 4 {
-        return;
-    }
     memo[at] = op;
     memo[at + 1] = f;
     memo[at + 2] = g;

@@ -16,17 +16,14 @@ mul-x-2 c = search needs
 add-x : tie.Need-add-x
 add-x c = search needs
 
-mul-x-3 : tie.Need-mul-x-3
-mul-x-3 c = search needs
-
-add-x-2 : tie.Need-add-x-2
-add-x-2 c = search needs
-
 mul-y : tie.Need-mul-y
 mul-y c = search needs
 
+add-y : tie.Need-add-y
+add-y c = search needs
+
 mul-result : tie.Need-mul-result
-mul-result c = let q = scaled-fits ((c .args .e * 7919 + c .args .failed * 12582917 + c .args .sound * 4256249) % 4294967296 * 2654435769 % 4294967296) (c .args .slots % 4294967296) (omega arith) (omega arith) in search (needs, q)
+mul-result c = let q = scaled-fits ((c .args .e * 906908087 % 4294967296 + c .args .failed * 1641373853 % 4294967296 + c .args .sound * 2345438705 % 4294967296) % 4294967296) (c .args .slots % 4294967296) (omega arith) (omega arith) in search (needs, q)
 
 returns : tie.Need-returns
 unfolding firstSlot
@@ -35,4 +32,4 @@ returns c =
     record { is = refl; below = first-below (a .e) (a .failed) (a .sound) (a .slots) (c .pre) }
 
 pub first-slot-spec : {M : Type 1} → statement M
-first-slot-spec = tie.close (tie.spec mul-x mul-x-2 add-x mul-x-3 add-x-2 mul-y mul-result returns)
+first-slot-spec = tie.close (tie.spec mul-x mul-x-2 add-x mul-y add-y mul-result returns)
