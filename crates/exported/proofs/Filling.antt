@@ -1,0 +1,40 @@
+-- An array that is filled from its front on.
+-- Assumes nothing.
+use mathlib.Core.Path.{_≡_, refl, sym, ap, _∙_}
+use mathlib.Core.List.{List, [], _∷_, _++_, append-nil}
+use Prim.Native.Nat.{ℕ, zero, suc, _+_, _-_, _≤_, _<_}
+use native.Mathlib.Omega.{arith}
+use lib.ListN.{length, set, replicate, length-append}
+use Rattle.records.specs.Bytes.{tabulate}
+use Rattle.records.specs.Memory.{pad}
+use Rattle.records.proofs.Pad.{pad-fill}
+use Rattle.records.proofs.Telling.{tabulate-▷}
+
+-- of n elements the first i are those of g, and z stands in the others
+pub record Filled {A : Type 0} (g : ℕ → A) (z : A) (n : ℕ) (ys : List A) (i : ℕ) : Type 0 where
+  pub within : i ≤ n
+  pub is : ys ≡ pad n z (tabulate i g)
+
+module _ {A : Type 0} (g : ℕ → A) where
+  tabulate-long : (n : ℕ) → length (tabulate n g) ≡ n
+  unfolding tabulate
+  tabulate-long zero = refl
+  tabulate-long (suc n) = length-append (tabulate n g) (g n ∷ []) ∙ ap (_+ 1) (tabulate-long n) ∙ omega arith
+
+  module _ (z : A) {n : ℕ} {ys : List A} where
+    pub filled-none : ys ≡ replicate n z → Filled g z n ys 0
+    unfolding pad tabulate
+    filled-none e = record { within = omega arith; is = let q : n ≡ n - 0 = omega arith in e ∙ ap (λ k. replicate k z) q }
+
+    pub filled-more : {i : ℕ} → Filled g z n ys i → i < n → Filled g z n (set ys i (g i)) (i + 1)
+    filled-more {i} f h = record {
+      within = omega arith;
+      is = pad-fill n z (tabulate i g) (g i) (f .is) (tabulate-long i) h ∙ sym (ap (pad n z) (tabulate-▷ i g));
+    }
+
+    pub filled-all : {i : ℕ} → Filled g z n ys i → n ≤ i → ys ≡ tabulate n g
+    unfolding pad
+    filled-all {i} f h =
+        let e : i ≡ n = let w = f .within in omega arith in
+        let none : n - length (tabulate n g) ≡ 0 = let l = tabulate-long n in omega arith in
+        f .is ∙ ap (λ j. pad n z (tabulate j g)) e ∙ ap (λ k. tabulate n g ++ replicate k z) none ∙ append-nil (tabulate n g)

@@ -1,0 +1,61 @@
+-- `exported::arrays::events_of` meets its contract. Assumes nothing.
+use borrow.Author.Needs.{needs}
+use native.Mathlib.Omega.{arith}
+use mathlib.Core.Path.{refl}
+use Prim.Native.Nat.{_-_}
+use lib.ListN.{getD}
+use Rattle.records.specs.Memory.{noEvent}
+use Rattle.exported.specs.Arrays.{eventsOf}
+use Rattle.exported.proofs.Filling.{Filled, filled-none, filled-more, filled-all}
+use Rattle.exported.proofs.arrays.events_of.Statement.{statement}
+use Rattle.exported.proofs.arrays.events_of.Tie as tie
+
+abbrev Inv-loop : tie.InvT-loop
+Inv-loop chances events₀ i₀ events i = Filled (λ e. record { chance = getD chances e 0 }) noEvent 256 events i
+
+abbrev μ-loop : tie.MeasureT-loop
+μ-loop chances events₀ i₀ events i = 256 - i
+
+loop-holds : tie.Need-loop-holds Inv-loop μ-loop
+loop-holds c = filled-none _ noEvent refl
+
+mul-chance : tie.Need-mul-chance Inv-loop μ-loop
+mul-chance c = search needs
+
+element-copy-out-chance : tie.Need-element-copy-out-chance Inv-loop μ-loop
+element-copy-out-chance c = search needs
+
+mul-events : tie.Need-mul-events Inv-loop μ-loop
+mul-events c = search needs
+
+array-set-from-events : tie.Need-array-set-from-events Inv-loop μ-loop
+array-set-from-events c = search needs
+
+add-i : tie.Need-add-i Inv-loop μ-loop
+add-i c = search needs
+
+loop-less : tie.Need-loop-less Inv-loop μ-loop
+loop-less c = search needs
+
+loop-again : tie.Need-loop-again Inv-loop μ-loop
+loop-again c = filled-more _ noEvent (c .before .before .loop .inv) (omega arith)
+
+returns : tie.Need-returns Inv-loop μ-loop
+unfolding eventsOf
+returns c = filled-all _ noEvent (c .before .loop .inv) (omega arith)
+
+pub events-of-spec : {M : Type 1} → statement M
+events-of-spec =
+    tie.close
+    (tie.spec
+    Inv-loop
+    μ-loop
+    loop-holds
+    mul-chance
+    element-copy-out-chance
+    mul-events
+    array-set-from-events
+    add-i
+    loop-less
+    loop-again
+    returns)

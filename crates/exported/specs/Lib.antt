@@ -1,0 +1,3 @@
+-- How the product's answers stand in arrays of numbers.
+pub mod Arrays
+pub mod Numbers

@@ -1,0 +1,27 @@
+-- The numbers of each call's answer, in order.
+-- Assumes nothing.
+use mathlib.Core.Bool.{cond}
+use mathlib.Core.List.{List, [], _∷_}
+use Prim.Native.Nat.{ℕ}
+use lib.ListN.{getD}
+use Rattle.records.specs.Answers.{verdict}
+use Rattle.records.specs.Bytes.{Wrote}
+use Rattle.records.specs.declared.Reading.{Reading}
+use Rattle.listing.specs.declared.Listed.{Listed}
+use Rattle.bracket.specs.declared.Ends.{Ends}
+use Rattle.analyser.specs.declared.Analysis.{Analysis}
+
+abbrev pub ofReading : Reading → List ℕ
+ofReading r = verdict (r .answer) .number ∷ verdict (r .answer) .place ∷ r .tree .«event_count» ∷ r .tree .«gate_count» ∷ []
+
+abbrev pub ofWriting : Wrote → List ℕ
+ofWriting w = verdict (w .answer) .number ∷ verdict (w .answer) .place ∷ w .bytes ∷ []
+
+abbrev pub ofAnalysis : Analysis → List ℕ
+ofAnalysis a = a .number ∷ a .place ∷ a .nodes ∷ a .«cut_nodes» ∷ a .root ∷ a .«cut_root» ∷ []
+
+abbrev pub ofListing : Listed → List ℕ
+ofListing l = l .number ∷ l .count ∷ l .used ∷ cond (l .finished) 1 0 ∷ getD (l .last) 0 0 ∷ getD (l .last) 1 0 ∷ getD (l .last) 2 0 ∷ getD (l .last) 3 0 ∷ []
+
+abbrev pub ofBracket : Ends → List ℕ
+ofBracket e = e .number ∷ e .low ∷ e .high ∷ []

@@ -1,0 +1,172 @@
+// The product's calls for other languages: numbers, slices (a pointer, then a length) and arrays (a pointer), the answer in a lent array.
+mod arrays; // a tree as five arrays of numbers
+
+use arrays::chances_of;
+use arrays::events_of;
+use paper::EVENTS;
+use paper::GATES;
+use paper::IN_ALL;
+use records::Tree;
+ghost use mathlib.Core.Path.{_≡_};
+ghost use Rattle.paper.specs.Limits.{limits};
+ghost use Rattle.records.specs.Judge.{outcome};
+ghost use Rattle.records.specs.Memory.{inMemory};
+ghost use Rattle.records.specs.Bytes.{writeOf};
+ghost use Rattle.listing.specs.Answers.{Answered};
+ghost use Rattle.listing.specs.declared.Listed.{Listed};
+ghost use Rattle.bracket.specs.Bracketed.{Bracketed};
+ghost use Rattle.bracket.specs.declared.Ends.{Ends};
+ghost use Rattle.analyser.specs.Memory.{memory};
+ghost use Rattle.analyser.specs.Analysed.{Analysed};
+ghost use Rattle.analyser.specs.declared.Analysis.{Analysis};
+ghost use Rattle.exported.specs.Arrays.{arrays, treeFrom, after};
+ghost use Rattle.exported.specs.Numbers.{ofReading, ofWriting, ofAnalysis, ofListing, ofBracket};
+
+// Reads a tree into five arrays. The answer: number, place, events, gates. A refusal leaves the arrays as they are.
+#[no_mangle]
+pub extern "C" fn matticklet_read(
+    bytes: &[u8],
+    answer: &mut [u64; 4],
+    chances: &mut [u32; EVENTS],
+    kinds: &mut [u8; GATES],
+    leasts: &mut [u8; GATES],
+    sizes: &mut [u8; GATES],
+    inputs: &mut [u16; IN_ALL],
+)
+    ensures { λ _. ⌜ now (answer .exit) ≡ ofReading (inMemory (outcome limits (now (bytes .entry)))) ⌝ }
+    ensures { λ _. ⌜ arrays (now (chances .exit)) (now (kinds .exit)) (now (leasts .exit)) (now (sizes .exit)) (now (inputs .exit)) ≡ after (inMemory (outcome limits (now (bytes .entry)))) (arrays (now (chances .entry)) (now (kinds .entry)) (now (leasts .entry)) (now (sizes .entry)) (now (inputs .entry))) ⌝ }
+{
+    let r = analyser::read(bytes);
+    let a = r.answer;
+    let t = r.tree;
+    let number = records::number(a);
+    let place = records::place(a);
+    *answer = [
+        number as u64,
+        place as u64,
+        t.event_count as u64,
+        t.gate_count as u64,
+    ];
+    if number == 0 {
+        let events = t.events;
+        let cs = chances_of(events);
+        let ks = t.kinds;
+        let ls = t.leasts;
+        let ns = t.sizes;
+        let is = t.inputs;
+        *chances = cs;
+        *kinds = ks;
+        *leasts = ls;
+        *sizes = ns;
+        *inputs = is;
+    }
+}
+
+// Writes the bytes of the tree in five arrays to the front of room. The answer: number, place, bytes.
+#[no_mangle]
+pub extern "C" fn matticklet_write(
+    events: usize,
+    gates: usize,
+    chances: &[u32; EVENTS],
+    kinds: &[u8; GATES],
+    leasts: &[u8; GATES],
+    sizes: &[u8; GATES],
+    inputs: &[u16; IN_ALL],
+    room: &mut [u8],
+    answer: &mut [u64; 3],
+)
+    ensures { λ _. ⌜ now (answer .exit) ≡ ofWriting (writeOf limits (treeFrom events gates (arrays (now (chances .entry)) (now (kinds .entry)) (now (leasts .entry)) (now (sizes .entry)) (now (inputs .entry)))) (now (room .entry))) ⌝ }
+    ensures { λ _. ⌜ now (room .exit) ≡ writeOf limits (treeFrom events gates (arrays (now (chances .entry)) (now (kinds .entry)) (now (leasts .entry)) (now (sizes .entry)) (now (inputs .entry)))) (now (room .entry)) .room ⌝ }
+{
+    let all = events_of(chances);
+    let tree = Tree {
+        events: all,
+        event_count: events,
+        kinds: *kinds,
+        leasts: *leasts,
+        sizes: *sizes,
+        gate_count: gates,
+        inputs: *inputs,
+    };
+    let w = analyser::write(tree, room);
+    let a = w.answer;
+    *answer = [
+        records::number(a) as u64,
+        records::place(a) as u64,
+        w.bytes as u64,
+    ];
+}
+
+// Analyses a tree. The answer: number, place, nodes, cut nodes, root, cut root.
+#[no_mangle]
+pub extern "C" fn matticklet_analyse(
+    bytes: &[u8],
+    nodes: &mut [u32],
+    cuts: &mut [u32],
+    gates: &mut [u32],
+    memo: &mut [u32],
+    heads: &mut [u32],
+    next: &mut [u32],
+    marks: &mut [u32],
+    own: &mut [u32],
+    answer: &mut [u64; 6],
+)
+    ensures { λ _. ⌜ ((r : Analysis) × (Analysed (now (bytes .entry)) (memory (now (nodes .entry)) (now (cuts .entry)) (now (gates .entry)) (now (memo .entry)) (now (heads .entry)) (now (next .entry)) (now (marks .entry)) (now (own .entry))) (memory (now (nodes .exit)) (now (cuts .exit)) (now (gates .exit)) (now (memo .exit)) (now (heads .exit)) (now (next .exit)) (now (marks .exit)) (now (own .exit))) r × (now (answer .exit) ≡ ofAnalysis r))) ⌝ }
+{
+    let r = analyser::analyse(bytes, nodes, cuts, gates, memo, heads, next, marks, own);
+    *answer = [
+        r.number as u64,
+        r.place as u64,
+        r.nodes as u64,
+        r.cut_nodes as u64,
+        r.root as u64,
+        r.cut_root as u64,
+    ];
+}
+
+// Lists the cuts of a lent cut diagram, from the beginning or after the set `s`. The answer: number, cuts, bytes used, finished, and the
+// last set's four words.
+#[no_mangle]
+pub extern "C" fn matticklet_list(
+    cuts: &[u32],
+    events: usize,
+    count: usize,
+    root: usize,
+    begin: bool,
+    s: &[u64; sets::WORDS],
+    room: &mut [u8],
+    answer: &mut [u64; 8],
+)
+    ensures { λ _. ⌜ ((r : Listed) × (Answered events (now (cuts .entry)) count root begin (now (s .entry)) (now (room .entry)) (now (room .exit)) (r .number) (r .count) (r .used) (r .last) (r .finished) × (now (answer .exit) ≡ ofListing r))) ⌝ }
+{
+    let r = analyser::list(cuts, events, count, root, begin, *s, room);
+    let last = r.last;
+    *answer = [
+        r.number as u64,
+        r.count as u64,
+        r.used as u64,
+        r.finished as u64,
+        last[0],
+        last[1],
+        last[2],
+        last[3],
+    ];
+}
+
+// Encloses the chance of the root of a lent diagram. The answer: number, low, high.
+#[no_mangle]
+pub extern "C" fn matticklet_bracket(
+    nodes: &[u32],
+    events: usize,
+    count: usize,
+    root: usize,
+    chances: &[u32],
+    lows: &mut [u32],
+    highs: &mut [u32],
+    answer: &mut [u64; 3],
+)
+    ensures { λ _. ⌜ ((r : Ends) × (Bracketed events (now (nodes .entry)) count root (now (chances .entry)) (r .number) (r .low) (r .high) (now (lows .entry)) (now (highs .entry)) (now (lows .exit)) (now (highs .exit)) × (now (answer .exit) ≡ ofBracket r))) ⌝ }
+{
+    let r = analyser::bracket(nodes, events, count, root, chances, lows, highs);
+    *answer = [r.number as u64, r.low, r.high];
+}

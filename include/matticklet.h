@@ -1,0 +1,155 @@
+/* Matticklet from C and C++: the five calls of the library `libexported.a` (x86-64 Linux, System V calling convention).
+ *
+ * Every call answers for any arguments and never fails otherwise: `number` is 0 for done, else the reason of a refusal (below).
+ * The library holds no state, allocates nothing, and touches only what it is lent, until it returns. What lent memory holds before a
+ * call never matters, except where it is the argument itself.
+ *
+ * A caller from C must keep what the language keeps for its own callers:
+ *   - a pointer is never null, also where the length beside it is 0, and is aligned for its type;
+ *   - a length counts elements, all of which may be read, and written where the pointer is not const;
+ *   - no area that may be written overlaps any other argument of the same call;
+ *   - the answer is an area like any other.
+ */
+#ifndef MATTICKLET_H
+#define MATTICKLET_H
+
+#include <stdbool.h>
+#include <stddef.h>
+#include <stdint.h>
+
+#ifdef __cplusplus
+extern "C" {
+#endif
+
+/* The numbers of answers. Where several are due, the call's own comment gives the order. */
+enum {
+    MATTICKLET_DONE = 0,
+    MATTICKLET_CUT_SHORT = 1,    /* the bytes end inside a record, or before an end record */
+    MATTICKLET_UNKNOWN_KIND = 2,
+    MATTICKLET_OUT_OF_PLACE = 3, /* a record or byte out of place */
+    MATTICKLET_COUNT = 4,        /* a count above its maximum, n of 0, or an end with no event or no gate */
+    MATTICKLET_THRESHOLD = 5,    /* k is 0 or above n */
+    MATTICKLET_REFERENCE = 6,    /* an event that is not there, or a gate not below its gate */
+    MATTICKLET_CHANCE = 7,       /* a chance above 1,000,000,000 */
+    MATTICKLET_UNUSED = 8,       /* an unused event, or an unused gate that is not the root */
+    MATTICKLET_LENGTH = 9,       /* a lent length breaks its rule, or the room is shorter than a written tree */
+    MATTICKLET_NODES_FULL = 10,
+    MATTICKLET_CUTS_FULL = 11,
+    MATTICKLET_NO_DIAGRAM = 12,
+    MATTICKLET_BEYOND = 13,      /* a set names an event beyond the number of events */
+    MATTICKLET_ROOM = 14         /* room too small for the next cut */
+};
+
+/* Limits of a tree and of a table. */
+enum {
+    MATTICKLET_EVENTS = 256,
+    MATTICKLET_GATES = 512,
+    MATTICKLET_GATE_INPUTS = 64,
+    MATTICKLET_INPUTS = 4096,          /* of all gates together */
+    MATTICKLET_TREE_BYTES = 14849,     /* the longest tree that is accepted */
+    MATTICKLET_TABLE_NUMBERS = 3000000,
+    MATTICKLET_BILLION = 1000000000,   /* a chance of 1 */
+    MATTICKLET_SET_WORDS = 4           /* event e is bit e % 64 of word e / 64 */
+};
+
+/* The bytes of a tree, a record after the other, low bytes first:
+ *   01 c c c c   next event, its chance in billionths
+ *   02 n         next gate: and of n inputs          03 n   or of n inputs          04 k n   at least k of n inputs
+ *   05 e         input: event e                      06 g g input: gate g           07       end
+ * Events come first, then gates, each followed by its n inputs; the last gate is the root.
+ *
+ * A tree in memory is its two counts and five arrays:
+ *   chances   of the events;
+ *   kinds     of the gates, 2, 3 or 4; leasts: their k (0 unless the kind is 4); sizes: their n;
+ *   inputs    of all gates, one gate after the other: event e is e, gate g is 256 + g. */
+
+struct matticklet_reading {
+    uint64_t number; /* 0 to 8 */
+    uint64_t place;  /* offset of the record at fault; 0 where done */
+    uint64_t events; /* 0 in a refusal */
+    uint64_t gates;  /* 0 in a refusal */
+};
+
+/* Reads a tree. Done: the five arrays hold the tree and zeros behind its counts. A refusal leaves them as they were. */
+void matticklet_read(const uint8_t *bytes, size_t bytes_length, struct matticklet_reading *answer,
+                     uint32_t chances[MATTICKLET_EVENTS], uint8_t kinds[MATTICKLET_GATES],
+                     uint8_t leasts[MATTICKLET_GATES], uint8_t sizes[MATTICKLET_GATES],
+                     uint16_t inputs[MATTICKLET_INPUTS]);
+
+struct matticklet_writing {
+    uint64_t number; /* 0, 2 to 8 as the tree's bytes would get, or 9 */
+    uint64_t place;  /* as those bytes would get; 0 with 9 */
+    uint64_t bytes;  /* written; 0 in a refusal */
+};
+
+/* Writes a tree's bytes to the front of room: 2 to 8, then 9 where the room is shorter than the bytes. Any values may stand in the
+ * arrays, and counts may exceed them. The room behind the bytes stays as it was; a refusal leaves all of it so. A room of
+ * MATTICKLET_TREE_BYTES is enough for any tree. */
+void matticklet_write(size_t events, size_t gates, const uint32_t chances[MATTICKLET_EVENTS],
+                      const uint8_t kinds[MATTICKLET_GATES], const uint8_t leasts[MATTICKLET_GATES],
+                      const uint8_t sizes[MATTICKLET_GATES], const uint16_t inputs[MATTICKLET_INPUTS],
+                      uint8_t *room, size_t room_length, struct matticklet_writing *answer);
+
+/* A node is three numbers: event, branch with the event failed, branch with it sound. 0 and 1 are the leaves and take no room; node i, from
+ * 2 on, stands at 3 * (i - 2). A table's capacity is its length / 3. */
+
+struct matticklet_analysis {
+    uint64_t number;    /* 0 to 11 */
+    uint64_t place;     /* of 1 to 8; else 0 */
+    uint64_t nodes;     /* nodes stored; 0 in a refusal, as are those below */
+    uint64_t cut_nodes;
+    uint64_t root;      /* the last gate's node */
+    uint64_t cut_root;  /* the node of the minimal cuts */
+};
+
+/* Analyses a tree: 1 to 8, then 9, then 10, then 11. Lengths, otherwise 9:
+ *   nodes, cuts               a multiple of 3, at most MATTICKLET_TABLE_NUMBERS
+ *   gates                     at least the tree's number of gates
+ *   memo                      a multiple of 4, also 0; a longer one is quicker
+ *   heads, next, marks, own   each at least the larger capacity of the two tables, plus 2
+ * 1 to 9 change nothing; 10 and 11 leave zero in all that was lent, to the last number. Done: nodes holds the diagram of all gates, cuts that
+ * of the root's minimal cuts, gates the node of each gate, each with zeros behind; memo and work areas are zero. */
+void matticklet_analyse(const uint8_t *bytes, size_t bytes_length, uint32_t *nodes, size_t nodes_length,
+                        uint32_t *cuts, size_t cuts_length, uint32_t *gates, size_t gates_length,
+                        uint32_t *memo, size_t memo_length, uint32_t *heads, size_t heads_length,
+                        uint32_t *next, size_t next_length, uint32_t *marks, size_t marks_length,
+                        uint32_t *own, size_t own_length, struct matticklet_analysis *answer);
+
+struct matticklet_listing {
+    uint64_t number;   /* 0, 12, 13 or 14 */
+    uint64_t cuts;     /* written */
+    uint64_t used;     /* bytes of the room */
+    uint64_t finished; /* 1 exactly if no cut comes after `last`; 0 in a refusal */
+    uint64_t last[MATTICKLET_SET_WORDS]; /* the last cut written; where none is, the start; empty in a refusal */
+};
+
+/* Lists the sets of a cut diagram of so many events, its table, its stated count of nodes, and its root: from the beginning (`after` is then not
+ * looked at, but must be there), or those after the set `after`. "After the empty set" is not the beginning: that set is the last of all.
+ * 12, then 13, then 14. Done: as many whole cuts as fit stand at the front of room, in order, a cut as the bytes 21 e for each member in rising
+ * order and then 22; the room behind stays as it was. A refusal changes nothing. To go on, hand over a done answer's `last` as `after`. */
+void matticklet_list(const uint32_t *cuts, size_t cuts_length, size_t events, size_t count, size_t root, bool begin,
+                     const uint64_t after[MATTICKLET_SET_WORDS], uint8_t *room, size_t room_length,
+                     struct matticklet_listing *answer);
+
+enum {
+    MATTICKLET_MEMBER = 0x21, /* one byte of event follows */
+    MATTICKLET_CUT_END = 0x22
+};
+
+struct matticklet_ends {
+    uint64_t number; /* 0, 7, 9 or 12 */
+    uint64_t low;    /* billionths; 0 in a refusal */
+    uint64_t high;
+};
+
+/* Encloses the chance of a diagram's root: 12, then 9, then 7. Lengths, otherwise 9: chances at least `events`; lows and highs each at least the
+ * table's capacity. Done: lows and highs are zero to the last number. A refusal changes nothing. */
+void matticklet_bracket(const uint32_t *nodes, size_t nodes_length, size_t events, size_t count, size_t root,
+                        const uint32_t *chances, size_t chances_length, uint32_t *lows, size_t lows_length,
+                        uint32_t *highs, size_t highs_length, struct matticklet_ends *answer);
+
+#ifdef __cplusplus
+}
+#endif
+
+#endif
