@@ -43,14 +43,14 @@ void plain_probes(void)
 #define COUNT(what) ((void)0)
 #endif
 
-static inline u32 event_of(const u32 *triples, u32 node) { return triples[3 * (u64)(node - 2)]; }
-static inline u32 failed_of(const u32 *triples, u32 node) { return triples[3 * (u64)(node - 2) + 1]; }
-static inline u32 sound_of(const u32 *triples, u32 node) { return triples[3 * (u64)(node - 2) + 2]; }
+static inline u32 event_of(const u32 *triples, u32 node) { return triples[3 * (u64)node - 6]; }
+static inline u32 failed_of(const u32 *triples, u32 node) { return triples[3 * (u64)node - 5]; }
+static inline u32 sound_of(const u32 *triples, u32 node) { return triples[3 * (u64)node - 4]; }
 
 /* The library's hash: multiply and take the high part, never a remainder by a variable. */
 static inline u32 slot(u32 a, u32 b, u32 c, u32 slots)
 {
-    u32 mixed = (a * 7919u + b * 12582917u + c * 4256249u) * 2654435769u;
+    u32 mixed = a * 906908087u + b * 1641373853u + c * 2345438705u;
     return (u32)(((u64)mixed * slots) >> 32);
 }
 
@@ -58,9 +58,9 @@ static inline u32 find_or_add(Store *s, u32 event, u32 failed, u32 sound)
 {
     u32 h = slot(event, failed, sound, s->slots);
     COUNT(finds);
-    for (u32 node = s->heads[h]; node != 0; node = s->next[node - 2]) {
+    for (u32 node = s->heads[h]; node != 0; node = s->next[(u64)node - 2]) {
         COUNT(links);
-        const u32 *triple = s->triples + 3 * (u64)(node - 2);
+        const u32 *triple = s->triples + 3 * (u64)node - 6;
         if (triple[0] == event && triple[1] == failed && triple[2] == sound) return node;
     }
     u32 count = s->count;
@@ -78,7 +78,6 @@ static inline u32 find_or_add(Store *s, u32 event, u32 failed, u32 sound)
 /* Answers the memo's result, or FULL for "unknown" with the place where the result belongs. */
 static inline u32 remembered(const Store *s, u32 operation, u32 f, u32 g, u32 *place)
 {
-    if (s->places == 0) return FULL;
     *place = slot(operation, f, g, s->places);
     const u32 *q = s->memo + 4 * (u64)*place;
     COUNT(questions);
@@ -91,7 +90,6 @@ static inline u32 remembered(const Store *s, u32 operation, u32 f, u32 g, u32 *p
 
 static inline void remember(Store *s, u32 place, u32 operation, u32 f, u32 g, u32 result)
 {
-    if (s->places == 0) return;
     u32 *q = s->memo + 4 * (u64)place;
     q[0] = operation;
     q[1] = f;
@@ -114,7 +112,7 @@ static inline u32 ask(const Store *s, u32 z, u32 *f, u32 *g, u32 *place)
 
 static u32 join_nodes(Store *s, u32 z, u32 f, u32 g, u32 place)
 {
-    const u32 *a = s->triples + 3 * (u64)(f - 2), *b = s->triples + 3 * (u64)(g - 2);
+    const u32 *a = s->triples + 3 * (u64)f - 6, *b = s->triples + 3 * (u64)g - 6;
     u32 x = a[0], y = b[0], event = x, f1 = f, f0 = f, g1 = g, g0 = g, below = 0;
     if (x <= y) f1 = a[1], f0 = a[2];
     if (y <= x) g1 = b[1], g0 = b[2], event = y;
@@ -155,7 +153,7 @@ static u32 at_least(Store *s, u32 k, u32 n, const u32 *operands)
 
 static u32 gate_node(Store *s, const u32 *gates, u32 kind, u32 k, u32 n, const uint16_t *input)
 {
-    u32 operands[MATTICKLET_GATE_INPUTS];
+    u32 operands[MATTICKLET_GATE_INPUTS] = {0};
     for (u32 i = 0; i < n; i++) {
         operands[i] = input[i] < 256 ? find_or_add(s, input[i], 1, 0) : gates[input[i] - 256];
         if (operands[i] == FULL) return FULL;
@@ -182,25 +180,34 @@ static u32 build(const Tree *tree, Store *s, u32 *gates)
     return node;
 }
 
-/* The leaves and the memo; G's earlier events are passed over first. */
-static inline u32 ask_without(const Store *s, u32 f, u32 *g, u32 *place)
+/* The leaves and the memo. */
+static inline u32 ask_without(const Store *s, u32 f, u32 g, u32 *place)
 {
-    if (f < 2) return *g == 1 ? 0 : f;
-    u32 event = event_of(s->triples, f);
-    while (*g >= 2 && event_of(s->nodes, *g) < event) *g = sound_of(s->nodes, *g);
-    if (*g < 2) return *g == 1 ? 0 : f;
-    return remembered(s, WITHOUT, f, *g, place);
+    if (f < 2 || g < 2) return g == 1 ? 0 : f;
+    return remembered(s, WITHOUT, f, g, place);
 }
 
-/* F is a node of the cut table, G one of the node table, with F's event not later. */
+/* F is a node of the cut table, G one of the node table, whose events before F's are passed over. */
 static u32 without_nodes(Store *s, u32 f, u32 g, u32 place)
 {
-    const u32 *a = s->triples + 3 * (u64)(f - 2), *b = s->nodes + 3 * (u64)(g - 2);
-    u32 event = a[0], f1 = a[1], f0 = a[2], g1 = g, g0 = g, below = 0;
-    if (b[0] == event) g1 = b[1], g0 = b[2];
-    u32 failed = ask_without(s, f1, &g1, &below);
+    const u32 *a = s->triples + 3 * (u64)f - 6;
+    u32 event = a[0], f1 = a[1], f0 = a[2], g1, g0, below = 0;
+    for (u32 h = g;;) {
+        const u32 *b = s->nodes + 3 * (u64)h - 6;
+        if (b[0] == event) {
+            g1 = b[1], g0 = b[2];
+            break;
+        }
+        if (b[0] < event && b[2] >= 2) {
+            h = b[2];
+            continue;
+        }
+        g1 = g0 = b[0] < event ? b[2] : h;
+        break;
+    }
+    u32 failed = ask_without(s, f1, g1, &below);
     if (failed == FULL && (failed = without_nodes(s, f1, g1, below)) == FULL) return FULL;
-    u32 sound = ask_without(s, f0, &g0, &below);
+    u32 sound = ask_without(s, f0, g0, &below);
     if (sound == FULL && (sound = without_nodes(s, f0, g0, below)) == FULL) return FULL;
     u32 result = failed == 0 ? sound : find_or_add(s, event, failed, sound);
     if (result != FULL) remember(s, place, WITHOUT, f, g, result);
@@ -218,9 +225,9 @@ static u32 cuts_of(Store *s, u32 root, u32 *marks, u32 *own)
     own[1] = 1;
     for (u32 node = 2; node <= root; node++) {
         if (!marks[node]) continue;
-        const u32 *triple = s->nodes + 3 * (u64)(node - 2);
+        const u32 *triple = s->nodes + 3 * (u64)node - 6;
         u32 g = triple[2], f = own[triple[1]], sound = own[g], place = 0;
-        u32 failed = ask_without(s, f, &g, &place);
+        u32 failed = ask_without(s, f, g, &place);
         if (failed == FULL && (failed = without_nodes(s, f, g, place)) == FULL) return FULL;
         u32 made = failed == 0 ? sound : find_or_add(s, triple[0], failed, sound);
         if (made == FULL) return FULL;
@@ -258,7 +265,9 @@ void matticklet_analyse(const uint8_t *bytes, size_t bytes_length, u32 *nodes, s
     clear(heads, heads_length);
     clear(memo, memo_length);
     clear(gates, gates_length);
+    u32 one[4] = {0}; /* a memo of no place gives way to one of a single place */
     Store s = {nodes, heads, next, memo, 0, (u32)(nodes_length / 3), (u32)heads_length, (u32)(memo_length / 4), NULL};
+    if (s.places == 0) s.memo = one, s.places = 1;
     u32 root = build(&tree, &s, gates);
 
     u32 count = s.count, cut_root = FULL;
@@ -267,7 +276,12 @@ void matticklet_analyse(const uint8_t *bytes, size_t bytes_length, u32 *nodes, s
     clear(memo, memo_length);
     clear(marks, marks_length);
     if (root != FULL) {
-        Store c = {cuts, heads, next, memo, 0, (u32)(cuts_length / 3), (u32)heads_length, (u32)(memo_length / 4), nodes};
+        Store c = s;
+        c.triples = cuts;
+        c.count = 0;
+        c.capacity = (u32)(cuts_length / 3);
+        c.nodes = nodes;
+        clear(one, 4);
         cut_root = cuts_of(&c, root, marks, own);
         answer->cut_nodes = c.count;
         clear(memo, memo_length);
@@ -294,7 +308,7 @@ static inline int is_diagram(const u32 *triples, size_t length, size_t events, s
     if (events < 1 || events > MATTICKLET_EVENTS || length % 3 != 0 || length > MATTICKLET_TABLE_NUMBERS) return 0;
     if (count > length / 3 || root >= count + 2) return 0;
     for (u32 node = 2; node < count + 2; node++) {
-        const u32 *triple = triples + 3 * (u64)(node - 2);
+        const u32 *triple = triples + 3 * (u64)node - 6;
         u32 event = triple[0], failed = triple[1], sound = triple[2];
         if (event >= events || failed >= node || sound >= node) return 0;
         if (failed >= 2 && event_of(triples, failed) <= event) return 0;
@@ -317,45 +331,42 @@ static inline u32 next_member(const u64 set[4], u32 from)
     return 64 * word + (u32)__builtin_ctzll(rest);
 }
 
-/* The path holds the nodes left by their failed branch: the members of the cut at hand. */
-typedef struct {
-    const u32 *triples;
-    u32 path[MATTICKLET_EVENTS];
-    u32 depth;
-} Path;
-
-static inline int descend(Path *p, u32 node)
+/* The path holds the nodes left by their failed branch: the members of the cut at hand. `top` is its end.
+   Going down failed branches always leads to the leaf 1. */
+static inline u32 *descend(const u32 *triples, u32 *top, u32 node)
 {
-    for (; node >= 2; node = failed_of(p->triples, node)) p->path[p->depth++] = node;
-    return node == 1;
+    for (; node >= 2; node = failed_of(triples, node)) *top++ = node;
+    return top;
 }
 
-static inline int following(Path *p)
+/* The path of the next cut, or a null pointer. */
+static inline u32 *following(const u32 *triples, u32 *path, u32 *top)
 {
-    while (p->depth > 0) {
-        u32 sound = sound_of(p->triples, p->path[--p->depth]);
-        if (sound != 0) return descend(p, sound);
+    while (top > path) {
+        u32 sound = sound_of(triples, *--top);
+        if (sound != 0) return descend(triples, top, sound);
     }
-    return 0;
+    return NULL;
 }
 
 /* The first cut after the set. */
-static int seek(Path *p, u32 node, const u64 after[4])
+static u32 *seek(const u32 *triples, u32 *path, u32 node, const u64 after[4])
 {
+    u32 *top = path;
     u32 decided = 0;
     while (node >= 2) {
-        u32 event = event_of(p->triples, node);
+        u32 event = event_of(triples, node);
         u32 member = next_member(after, decided);
-        if (member < event) return descend(p, node);
+        if (member < event) return descend(triples, top, node);
         decided = event + 1;
         if (member == event) {
-            p->path[p->depth++] = node;
-            node = failed_of(p->triples, node);
+            *top++ = node;
+            node = failed_of(triples, node);
         } else
-            node = sound_of(p->triples, node);
+            node = sound_of(triples, node);
     }
-    if (node == 1 && next_member(after, decided) < 256) return 1;
-    return following(p);
+    if (node == 1 && next_member(after, decided) < 256) return top;
+    return following(triples, path, top);
 }
 
 /* The set of a cut's bytes. */
@@ -377,29 +388,30 @@ void matticklet_list(const u32 *cuts, size_t cuts_length, size_t events, size_t 
         answer->number = 13;
         return;
     }
-    Path p;
-    p.triples = cuts;
-    p.depth = 0;
-    int follows = begin ? descend(&p, (u32)root) : seek(&p, (u32)root, after);
+    u32 path[MATTICKLET_EVENTS], *top;
+    if (!begin)
+        top = seek(cuts, path, (u32)root, after);
+    else
+        top = root == 0 ? NULL : descend(cuts, path, (u32)root);
     uint8_t *cut = room, *end = room, *limit = room + room_length;
     u64 written = 0;
-    while (follows && 2 * (size_t)p.depth + 1 <= (size_t)(limit - end)) {
+    while (top && 2 * (top - path) + 1 <= limit - end) {
         cut = end;
-        for (u32 i = 0; i < p.depth; i++) {
-            *end++ = MATTICKLET_MEMBER;
-            *end++ = (uint8_t)event_of(cuts, p.path[i]);
+        for (const u32 *node = path; node < top; node++, end += 2) {
+            end[0] = MATTICKLET_MEMBER;
+            end[1] = (uint8_t)event_of(cuts, *node);
         }
         *end++ = MATTICKLET_CUT_END;
         written++;
-        follows = following(&p);
+        top = following(cuts, path, top);
     }
-    if (follows && written == 0) {
+    if (top && written == 0) {
         answer->number = 14;
         return;
     }
     answer->cuts = written;
     answer->used = (u64)(end - room);
-    answer->finished = !follows;
+    answer->finished = !top;
     if (written > 0)
         set_of(cut, answer->last);
     else if (!begin)
