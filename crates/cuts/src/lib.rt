@@ -10,7 +10,7 @@ ghost use Rattle.tables.specs.Table.{den};
 ghost use Rattle.store.specs.Store.{Store};
 ghost use Rattle.store.specs.Memo.{Place};
 ghost use Rattle.cuts.specs.Reading.{Held, Readable};
-ghost use Rattle.cuts.specs.Without.{Family, Ready, Asked, Missed, Parted, Finishes, Takes};
+ghost use Rattle.cuts.specs.Without.{Family, Ready, Asked, Missed, Passed, Parted, Finishes, Takes};
 ghost use Rattle.cuts.specs.Reach.{Marked, Spread};
 ghost use Rattle.cuts.specs.Cutting.{Cuts, Room, Turn, Halfway, Base, Steps};
 
@@ -42,16 +42,36 @@ fn ask(memo: &[u32], f: u32, g: u32) -> Known
     requires { ⌜ 4 ≤ length (now memo) ⌝ }
     ensures { λ r. ⌜ Asked (now (memo .entry)) f g r ⌝ }
 {
-    if g == 1 {
-        return Known::Node(0);
-    }
-    if g == 0 {
+    if g < 2 {
+        if g == 1 {
+            return Known::Node(0);
+        }
         return Known::Node(f);
     }
     if f < 2 {
         return Known::Node(f);
     }
     store::recall(memo, 3, f, g)
+}
+
+// g past its events that are earlier than e: no set of a family that begins at e has them. The last node before a leaf stays.
+fn past(nodes: &[u32], e: u32, g: u32) -> u32
+    requires { ⌜ Readable (now nodes) g ⌝ }
+    requires { ⌜ 2 ≤ g ⌝ }
+    ensures { λ r. ⌜ Passed (now (nodes .entry)) e g r ⌝ }
+{
+    let mut h = g;
+    loop {
+        let j = 3 * ((h - 2) as usize);
+        if e <= nodes[j] {
+            return h;
+        }
+        let s = nodes[j + 2];
+        if s < 2 {
+            return h;
+        }
+        h = s;
+    }
 }
 
 // Takes f and g apart; no set of f has an event earlier than its own, so that its failed branch there is 0.
@@ -72,11 +92,12 @@ fn take_apart(
     ensures { λ r. ⌜ Parted (now (cut .entry)) (now (nodes .entry)) f g r ⌝ }
 {
     let i = 3 * ((f - 2) as usize);
-    let j = 3 * ((g - 2) as usize);
     let x = cut[i];
+    let h = past(nodes, x, g);
+    let j = 3 * ((h - 2) as usize);
     let y = nodes[j];
     if x < y {
-        return branches(x, cut[i + 1], g, cut[i + 2], g);
+        return branches(x, cut[i + 1], h, cut[i + 2], h);
     }
     if y < x {
         return branches(y, 0, 0, f, nodes[j + 2]);
