@@ -8,7 +8,7 @@ ghost use lib.ListN.{length};
 ghost use Rattle.algebra.specs.Families.{mkZ, withoutD, cutsD};
 ghost use Rattle.tables.specs.Table.{den};
 ghost use Rattle.store.specs.Store.{Store};
-ghost use Rattle.store.specs.Memo.{Place};
+ghost use Rattle.store.specs.Memo.{Places, Place};
 ghost use Rattle.cuts.specs.Reading.{Held, Readable};
 ghost use Rattle.cuts.specs.Without.{Family, Ready, Asked, Missed, Passed, Parted, Finishes, Takes};
 ghost use Rattle.cuts.specs.Reach.{Marked, Spread};
@@ -39,7 +39,7 @@ fn branches(e: u32, f1: u32, g1: u32, f0: u32, g0: u32) -> Parts
 
 // What is known without taking F and G apart: a leaf, or what the memo says.
 fn ask(memo: &[u32], f: u32, g: u32) -> Known
-    requires { ⌜ 4 ≤ length (now memo) ⌝ }
+    requires { ⌜ Places (now memo) ⌝ }
     ensures { λ r. ⌜ Asked (now (memo .entry)) f g r ⌝ }
 {
     if g < 2 {
@@ -331,8 +331,33 @@ fn cut_all(
     Built::Done(own[root], count)
 }
 
-// THE CUT TABLE of a node table's root, over whatever the lent memory holds: `next`, `marks` and `own` are work areas with a number for each node. A memo
-// of no place gives way to one of a single place, so that the recursion need not ask whether there is one.
+// The cut table of a node table's root, over whatever the lent memory holds.
+fn cuts_over(
+    cut: &mut [u32],
+    heads: &mut [u32],
+    next: &mut [u32],
+    memo: &mut [u32],
+    marks: &mut [u32],
+    own: &mut [u32],
+    nodes: &[u32],
+    root: usize,
+) -> Built
+    requires { ⌜ Readable (now nodes) root ⌝ }
+    requires { ⌜ Room (now cut) (now heads) (now next) (now marks) (now own) root ⌝ }
+    requires { ⌜ Places (now memo) ⌝ }
+    ensures { λ r. ⌜ Cuts (den (now (nodes .entry)) root) (now (cut .exit)) (now (heads .exit)) (now (next .exit)) r ⌝ }
+{
+    store::clear(cut);
+    store::clear(heads);
+    store::clear(memo);
+    mark(nodes, marks, root);
+    own[0] = 0;
+    own[1] = 1;
+    cut_all(cut, heads, next, memo, own, nodes, marks, root)
+}
+
+// THE CUT TABLE: `next`, `marks` and `own` are work areas with a number for each node. A memo of no place gives way to one of a single place, so that the
+// recursion need not ask whether there is one.
 pub fn build_cuts(
     cut: &mut [u32],
     heads: &mut [u32],
@@ -347,15 +372,10 @@ pub fn build_cuts(
     requires { ⌜ Room (now cut) (now heads) (now next) (now marks) (now own) root ⌝ }
     ensures { λ r. ⌜ Cuts (den (now (nodes .entry)) root) (now (cut .exit)) (now (heads .exit)) (now (next .exit)) r ⌝ }
 {
-    store::clear(cut);
-    store::clear(heads);
-    store::clear(memo);
-    mark(nodes, marks, root);
-    own[0] = 0;
-    own[1] = 1;
-    if memo.len() < 4 {
+    let n = store::used(memo.len());
+    if n < 4 {
         let mut one = [0u32; 4];
-        return cut_all(cut, heads, next, &mut one, own, nodes, marks, root);
+        return cuts_over(cut, heads, next, &mut one, marks, own, nodes, root);
     }
-    cut_all(cut, heads, next, memo, own, nodes, marks, root)
+    cuts_over(cut, heads, next, &mut memo[..n], marks, own, nodes, root)
 }

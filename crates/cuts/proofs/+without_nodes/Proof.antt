@@ -39,13 +39,13 @@ take-apart-requires t c κs =
     (ready .store, (ready .family, (ready .function, (missed .f-node, missed .g-node))))
 
 ask-requires : (t : ℕ) → lts.Need-ask-requires (calls t) (entry t) reads.Post
-ask-requires t c κs = c .before .before .before .before .before .before .before .before .before .before .pre .1 .0 .memo .some
+ask-requires t c κs = c .before .before .before .before .before .before .before .before .before .before .pre .1 .0 .memo .places
 
 enum-known-r1 : (t : ℕ) → lts.Need-enum-known-r1 (calls t) (entry t) reads.Post
 enum-known-r1 t c = search needs
 
 ask-requires-2 : (t : ℕ) → lts.Need-ask-requires-2 (calls t) (entry t) reads.Post
-ask-requires-2 t c κs = c .before .before .before .before .before .before .before .before .before .before .before .before .before .before .before .pre .1 .0 .memo .some
+ask-requires-2 t c κs = c .before .before .before .before .before .before .before .before .before .before .before .before .before .before .before .pre .1 .0 .memo .places
 
 enum-known-r0 : (t : ℕ) → lts.Need-enum-known-r0 (calls t) (entry t) reads.Post
 enum-known-r0 t c = search needs
@@ -149,7 +149,7 @@ returns-2 t c =
 ask-requires-3 : (t : ℕ) → lts.Need-ask-requires-3 (calls t) (entry t) reads.Post
 ask-requires-3 t c κs =
     let made-1 = rw (c .before .before .a .given .1) at (c .before .before .before .before .before .before .before .before .before .before .before .before .without-nodes2 .ensures) in
-    made-1 .memo .some
+    made-1 .memo .places
 
 enum-known-r0-2 : (t : ℕ) → lts.Need-enum-known-r0-2 (calls t) (entry t) reads.Post
 enum-known-r0-2 t c = search needs
