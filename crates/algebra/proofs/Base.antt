@@ -71,6 +71,10 @@ pub widen : (m k n : ℕ) (d : Diagram) → k ≤ m → Ordered m n d → Ordere
 widen m k n (leaf b) h o = tt
 widen m k n (node e f s) h o = (omega (arith, o .0), o .1, o .2, o .3)
 
+pub lengthen : (m n k : ℕ) (d : Diagram) → n ≤ k → Ordered m n d → Ordered m k d
+lengthen m n k (leaf b) l o = tt
+lengthen m n k (node e f s) l o = (o .0, omega (arith, o .1), lengthen (suc e) n k f l (o .2), lengthen (suc e) n k s l (o .3))
+
 pub ordered-mk : (n e : ℕ) (f s : Diagram) → e < n → Ordered (suc e) n f → Ordered (suc e) n s → Ordered e n (mkD e f s)
 ordered-mk n e f s h a b = mk-cases (Ordered e n) e f s (λ q. widen (suc e) e n f (omega arith) a) (λ q. (omega arith, h, a, b))
 

@@ -10,14 +10,14 @@ use Rattle.paper.specs.Lists.{In, keep, flat, distinct, every}
 use Rattle.paper.specs.Sets.{Set, allSets, Part, partOf}
 use Rattle.paper.specs.Functions.{Fun, fixF, reach, table, table-discrete, varies}
 use Rattle.paper.specs.Diagrams.{Diagram, leaf, node, eval, Ordered, Diagram-discrete}
-use Rattle.paper.specs.Cuts.{MinimalCut, fixFam, minimalF, proper, cutNodesNeeded}
+use Rattle.paper.specs.Cuts.{MinimalCut, fixFam, minimalF, proper, cutsNeeded, cutNodesNeeded}
 use Rattle.algebra.specs.Operations.{fixD, subs, isNode, nodeCount}
 use Rattle.algebra.specs.Families.{cutsD, holds}
 use Rattle.algebra.proofs.Base.{widen, Three, below, beyond, equal, three}
 use Rattle.algebra.proofs.Lists.{bool-iff, in-append, in-map, map-in, in-keep, keep-in, keep-same, keep-map, in-flat, flat-in, map-map, map-same, distinct-same}
 use Rattle.algebra.proofs.Sets.{cut-part, cut-of-part, part-false}
 use Rattle.algebra.proofs.Trim.{trim, trim-all, trim-at, trim-above}
-use Rattle.algebra.proofs.Kind.{count-kind, reach-fun, reach-ok, reach-subs, subs-reach}
+use Rattle.algebra.proofs.Kind.{count-kind, node-counted, counted-node, reach-fun, reach-ok, reach-subs, subs-reach}
 use Rattle.algebra.proofs.Plain.{plain, Good, eval-trim, varies-node}
 use Rattle.algebra.proofs.Without.{Fit, fit-failed, fit-sound, fit-at, Tidy, tidy-cuts}
 use Rattle.algebra.proofs.Zero.{suppressed, sets-hold, hold-sets, local-z, proper-node}
@@ -127,58 +127,73 @@ fit-subs n m (node e f s) x h (inr k) = go (in-append x (subs f) (subs s) k) (fi
     go (inl k) a b = a k
     go (inr k) a b = b k
 
--- the count of nodes asks only which diagrams there are
+-- the nodes of some diagrams are nodes of any others among which these are
+node-members : (ds es : List Diagram) → ((d : Diagram) → In d ds → In d es) → (x : Diagram) → In x (keep isNode (flat subs ds)) → In x (keep isNode (flat subs es))
+node-members ds es f x h =
+    let (a, t) = keep-in isNode x (flat subs ds) h in
+    let (d, k, l) = flat-in subs x ds a in
+    in-keep isNode x (flat subs es) (in-flat subs x d es (f d k) l) t
+
+-- so the count of nodes asks only which diagrams there are
 pub count-members : (ds es : List Diagram) → ((d : Diagram) → In d ds → In d es) → ((d : Diagram) → In d es → In d ds) → nodeCount ds ≡ nodeCount es
 unfolding nodeCount
-count-members ds es f g = distinct-same Diagram-discrete (keep isNode (flat subs ds)) (keep isNode (flat subs es)) (go ds es f) (go es ds g)
-  where
-    go : (ds es : List Diagram) → ((d : Diagram) → In d ds → In d es) → (x : Diagram) → In x (keep isNode (flat subs ds)) → In x (keep isNode (flat subs es))
-    go ds es f x h =
-        let (a, t) = keep-in isNode x (flat subs ds) h in
-        let (d, k, l) = flat-in subs x ds a in
-        in-keep isNode x (flat subs es) (in-flat subs x d es (f d k) l) t
+count-members ds es f g = distinct-same Diagram-discrete (keep isNode (flat subs ds)) (keep isNode (flat subs es)) (node-members ds es f) (node-members es ds g)
 
 map-members : (h : Diagram → Diagram) (ds es : List Diagram) → ((d : Diagram) → In d ds → In d es) → (x : Diagram) → In x (map h ds) → In x (map h es)
 map-members h ds es f x k = let (d, i, e) = map-in h x ds k in subst (λ y. In y (map h es)) (sym e) (in-map h d es (f d i))
 
--- CUT NODES NEEDED: the distinct nodes of the cut diagrams of all nodes of a diagram
-pub cut-count-law : (n : ℕ) (d : Diagram) → Fit n 0 d → nodeCount (map cutsD (keep isNode (subs d))) ≡ cutNodesNeeded n (eval d)
-unfolding cutNodesNeeded
-cut-count-law n d h =
-    count-members (map cutsD (keep isNode (subs d))) (map cutsD N) (map-members cutsD (keep isNode (subs d)) N to) (map-members cutsD N (keep isNode (subs d)) from)
-    ∙ count-kind n (suppressed n) (proper n) (proper-node n) (map cutsD N) tidy
-    ∙ ap (λ l. distinct table-discrete (map (table n) (keep (proper n) (flat (reach fixFam n 0) l)))) families
-  where
-    R : List Diagram
-    R = reach fixD n 0 d
+module _ (n : ℕ) (d : Diagram) (h : Fit n 0 d) where
+  -- the nodes of d as its sub-diagrams, and as what fixing reaches
+  abbrev S : List Diagram
+  S = keep isNode (subs d)
 
-    N : List Diagram
-    N = keep isNode R
+  abbrev N : List Diagram
+  N = keep isNode (reach fixD n 0 d)
 
-    good : Good n 0 d
-    good = (h .ordered, h .reduced)
+  good : Good n 0 d
+  good = (h .ordered, h .reduced)
 
-    to : (x : Diagram) → In x (keep isNode (subs d)) → In x N
-    to x k = let (a, t) = keep-in isNode x (subs d) k in in-keep isNode x R (subs-reach n (plain n) n 0 (omega arith) d x good a) t
+  to : (x : Diagram) → In x S → In x N
+  to x k = let (a, t) = keep-in isNode x (subs d) k in in-keep isNode x (reach fixD n 0 d) (subs-reach n (plain n) n 0 (omega arith) d x good a) t
 
-    from : (x : Diagram) → In x N → In x (keep isNode (subs d))
-    from x k = let (a, t) = keep-in isNode x R k in in-keep isNode x (subs d) (reach-subs n (plain n) n 0 d x t a) t
+  from : (x : Diagram) → In x N → In x S
+  from x k = let (a, t) = keep-in isNode x (reach fixD n 0 d) k in in-keep isNode x (subs d) (reach-subs n (plain n) n 0 d x t a) t
 
-    fit : (x : Diagram) → In x N → Fit n 0 x
-    fit x k = fit-subs n 0 d x h (keep-in isNode x (subs d) (from x k) .0)
+  fit : (x : Diagram) → In x N → Fit n 0 x
+  fit x k = fit-subs n 0 d x h (keep-in isNode x (subs d) (from x k) .0)
 
-    tidy : (z : Diagram) → In z (map cutsD N) → Tidy 0 n z
-    tidy z k = let (x, i, e) = map-in cutsD z N k in subst (Tidy 0 n) (sym e) (tidy-cuts n 0 x (fit x i .ordered))
+  tidy : (z : Diagram) → In z (map cutsD N) → Tidy 0 n z
+  tidy z k = let (x, i, e) = map-in cutsD z N k in subst (Tidy 0 n) (sym e) (tidy-cuts n 0 x (fit x i .ordered))
 
-    nodes : map eval N ≡ keep (λ G. varies (table n G)) (reach fixF n 0 (eval d))
-    nodes =
-        ap (map eval) (keep-same isNode (λ x. varies (table n (eval x))) R (λ x k. sym (varies-node n x (reach-ok n (plain n) n 0 (omega arith) d x good k))))
-        ∙ sym (keep-map eval (λ G. varies (table n G)) R)
-        ∙ ap (keep (λ G. varies (table n G))) (reach-fun n (plain n) n 0 (omega arith) d good)
+  nodes : map eval N ≡ keep (λ G. varies (table n G)) (reach fixF n 0 (eval d))
+  nodes =
+      ap (map eval) (keep-same isNode (λ x. varies (table n (eval x))) (reach fixD n 0 d) (λ x k. sym (varies-node n x (reach-ok n (plain n) n 0 (omega arith) d x good k))))
+      ∙ sym (keep-map eval (λ G. varies (table n G)) (reach fixD n 0 d))
+      ∙ ap (keep (λ G. varies (table n G))) (reach-fun n (plain n) n 0 (omega arith) d good)
 
-    families : map (holds n 0) (map cutsD N) ≡ map (minimalF n) (keep (λ G. varies (table n G)) (reach fixF n 0 (eval d)))
-    families =
-        sym (map-map (holds n 0) cutsD N)
-        ∙ map-same (λ x. holds n 0 (cutsD x)) (λ x. minimalF n (eval x)) N (λ x k. cuts-hold n x (fit x k))
-        ∙ map-map (minimalF n) eval N
-        ∙ ap (map (minimalF n)) nodes
+  families : map (holds n 0) (map cutsD N) ≡ map (minimalF n) (keep (λ G. varies (table n G)) (reach fixF n 0 (eval d)))
+  families =
+      sym (map-map (holds n 0) cutsD N)
+      ∙ map-same (λ x. holds n 0 (cutsD x)) (λ x. minimalF n (eval x)) N (λ x k. cuts-hold n x (fit x k))
+      ∙ map-map (minimalF n) eval N
+      ∙ ap (map (minimalF n)) nodes
+
+  -- CUT NODES NEEDED: the distinct nodes of the cut diagrams of all nodes of a diagram
+  pub cut-count-law : nodeCount (map cutsD (keep isNode (subs d))) ≡ cutNodesNeeded n (eval d)
+  unfolding cutNodesNeeded
+  cut-count-law =
+      count-members (map cutsD S) (map cutsD N) (map-members cutsD S N to) (map-members cutsD N S from)
+      ∙ count-kind n (suppressed n) (proper n) (proper-node n) (map cutsD N) tidy
+      ∙ ap (λ l. distinct table-discrete (map (table n) (keep (proper n) (flat (reach fixFam n 0) l)))) families
+
+  -- each node of these cut diagrams is a needed family's, and each needed family is such a node's
+  pub cut-node-needed : (x : Diagram) → In x (keep isNode (flat subs (map cutsD (keep isNode (subs d))))) → In (table n (holds n 0 x)) (cutsNeeded n (eval d))
+  cut-node-needed x k =
+      subst (λ l. In (table n (holds n 0 x)) (map (table n) (keep (proper n) (flat (reach fixFam n 0) l)))) families
+      (node-counted n (suppressed n) (proper n) (proper-node n) (map cutsD N) tidy x (node-members (map cutsD S) (map cutsD N) (map-members cutsD S N to) x k))
+
+  pub needed-cut-node : (X : List Bool) → In X (cutsNeeded n (eval d)) → (x : Diagram) × In x (keep isNode (flat subs (map cutsD (keep isNode (subs d))))) × (table n (holds n 0 x) ≡ X)
+  needed-cut-node X k =
+      let (x, i, e) = counted-node n (suppressed n) (proper n) (proper-node n) (map cutsD N) tidy X
+      (subst (λ l. In X (map (table n) (keep (proper n) (flat (reach fixFam n 0) l)))) (sym families) k) in
+      (x, node-members (map cutsD N) (map cutsD S) (map-members cutsD N S from) x i, e)

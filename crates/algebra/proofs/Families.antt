@@ -1,21 +1,19 @@
 -- One diagram for each family.
 -- Assumes nothing.
-use mathlib.Core.Path.{_≡_, sym, ap, _∙_, subst, fun-ext}
+use mathlib.Core.Path.{_≡_, sym, _∙_, fun-ext}
 use mathlib.Core.Logic.{_↔_}
 use mathlib.Core.Bool.{true}
-use Prim.Native.Nat.{ℕ, _≤_}
+use Prim.Native.Nat.{ℕ}
 use native.Mathlib.Omega.{arith}
-use Rattle.paper.specs.Lists.{In}
 use Rattle.paper.specs.Sets.{Set}
 use Rattle.paper.specs.Diagrams.{Diagram, Ordered}
-use Rattle.paper.specs.Cuts.{Denotes, setsOf, Suppressed}
+use Rattle.paper.specs.Cuts.{Denotes, Suppressed}
 use Rattle.algebra.specs.Families.{holds}
 use Rattle.algebra.proofs.Lists.{bool-iff}
 use Rattle.algebra.proofs.Trim.{trim}
 use Rattle.algebra.proofs.Kind.{canonical-kind}
-use Rattle.algebra.proofs.Without.{Tidy, sets-beyond}
+use Rattle.algebra.proofs.Without.{Tidy}
 use Rattle.algebra.proofs.Order.{sets-complete}
-use Rattle.algebra.proofs.Listing.{trim-whole}
 use Rattle.algebra.proofs.Zero.{suppressed, sets-hold, hold-sets, local-z}
 
 -- a set that stands in one of two families stands in the other

@@ -9,17 +9,17 @@ use native.Mathlib.Omega.{arith}
 use lib.ListN.{length, getD}
 use borrow.Author.Tests.{lt-leb, leb-false}
 use lib.Dec.{leb, leb·zero, leb·suc-zero, leb·suc-suc}
-use Rattle.paper.specs.Lists.{In, upTo}
+use Rattle.paper.specs.Lists.{In, keep, flat}
 use Rattle.paper.specs.Sets.{Set, none}
-use Rattle.paper.specs.Functions.{Fun, Monotone}
-use Rattle.paper.specs.Trees.{Input, event, gate, Gate, andG, orG, leastG, eventF, constF, countFails, gateFuns, InputsBelow, GateBelow, TreeBelow, everyFails, someFails}
+use Rattle.paper.specs.Functions.{Fun, table, Monotone}
+use Rattle.paper.specs.Trees.{Input, event, gate, Gate, andG, orG, leastG, eventF, constF, countFails, InputsBelow, GateBelow, TreeBelow, everyFails, someFails}
 use Rattle.paper.specs.Steps.{joinFrom, joinAll, joinSteps, joinAllSteps, least, leastSteps, input, value, eventSteps, steps, valuesFrom, stepsFrom, join, joinF, stepFuns}
-use Rattle.paper.specs.Nodes.{nodesNeeded}
+use Rattle.paper.specs.Nodes.{needed, nodesNeeded}
 use Rattle.paper.specs.Diagrams.{Diagram, leaf, eval}
-use Rattle.algebra.specs.Operations.{joinD, nodeCount, eventD, gateDiagrams, stepDiagrams}
+use Rattle.algebra.specs.Operations.{joinD, subs, isNode, nodeCount, eventD, gateDiagrams, stepDiagrams}
 use Rattle.algebra.proofs.Join.{joined-from}
 use Rattle.algebra.proofs.Without.{Fit}
-use Rattle.algebra.proofs.Plain.{Good, count-law}
+use Rattle.algebra.proofs.Plain.{Good, count-law, node-needed, needed-node}
 
 -- two lists, member by member
 abbrev pub Pairs : {X Y : Type 0} → (X → Y → Type 0) → List X → List Y → Type 0
@@ -223,6 +223,17 @@ module _ (n : ℕ) where
   tree-nodes t b =
       let p = steps-show t b in
       count-law n (stepDiagrams t) (good (stepDiagrams t) (stepFuns t) p) ∙ ap (nodesNeeded n) (shown (stepDiagrams t) (stepFuns t) p)
+
+  -- each node of a step is a needed function's, and each needed function is such a node's
+  pub step-needed : (t : List Gate) → TreeBelow n t → (x : Diagram) → In x (keep isNode (flat subs (stepDiagrams t))) → In (table n (eval x)) (needed n (stepFuns t))
+  step-needed t b x h =
+      let p = steps-show t b in
+      subst (λ Fs. In (table n (eval x)) (needed n Fs)) (shown (stepDiagrams t) (stepFuns t) p) (node-needed n (stepDiagrams t) (good (stepDiagrams t) (stepFuns t) p) x h)
+
+  pub needed-step : (t : List Gate) → TreeBelow n t → (X : List Bool) → In X (needed n (stepFuns t)) → (x : Diagram) × In x (keep isNode (flat subs (stepDiagrams t))) × (table n (eval x) ≡ X)
+  needed-step t b X h =
+      let p = steps-show t b in
+      needed-node n (stepDiagrams t) (good (stepDiagrams t) (stepFuns t) p) X (subst (λ Fs. In X (needed n Fs)) (sym (shown (stepDiagrams t) (stepFuns t) p)) h)
 
 -- ---- what the gates' functions are
 

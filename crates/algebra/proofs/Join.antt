@@ -13,7 +13,7 @@ use Rattle.algebra.specs.Operations.{fixD, joinD, andD, orD}
 use Rattle.algebra.proofs.Base.{mk-same, mk-node, eval-mk, reduced-mk, ordered-mk, cond-map}
 use Rattle.algebra.proofs.Fix.{Top, at, above, top, fix-at, fix-above, fix-mk, ordered-fix, reduced-fix, eval-top, at-end}
 
-join-leaf : (z c : Bool) (d : Diagram) → joinD z d (leaf c) ≡ cond (Bool·beq c z) (leaf z) d
+pub join-leaf : (z c : Bool) (d : Diagram) → joinD z d (leaf c) ≡ cond (Bool·beq c z) (leaf z) d
 join-leaf true true (leaf true) = refl
 join-leaf true true (leaf false) = refl
 join-leaf true false (leaf true) = refl

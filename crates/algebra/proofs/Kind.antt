@@ -12,7 +12,7 @@ use Rattle.paper.specs.Sets.{Set, allSets}
 use Rattle.paper.specs.Functions.{Fun, reach, table, table-discrete}
 use Rattle.paper.specs.Diagrams.{Diagram, leaf, node, Diagram-discrete}
 use Rattle.algebra.specs.Operations.{subs, isNode, nodeCount}
-use Rattle.algebra.proofs.Lists.{in-left, in-right, in-append, map-append, map-map, in-flat, flat-in, map-flat, keep-map, keep-same, keep-in, in-keep, map-agree, distinct-map, distinct-same}
+use Rattle.algebra.proofs.Lists.{in-left, in-right, in-append, in-map, map-in, map-append, map-map, in-flat, flat-in, map-flat, keep-map, keep-same, keep-in, in-keep, map-agree, distinct-map, distinct-same}
 use Rattle.algebra.proofs.Trim.{trim, trim-all}
 
 -- diagrams of n events: OK m d says that d is well made, with events from m on
@@ -128,13 +128,24 @@ module _ (n : ℕ) (K : Kind n) where
     unfolding R
     functions = map-flat (reach fix n 0) (reach fixFun n 0) fun fun ds (λ d h. reach-fun n 0 (omega arith) d (ok d h))
 
+    -- the functions of the nodes are those that fixing leaves and that pass the test
+    tables : map (λ d. table n (fun d)) (keep isNode R) ≡ map (table n) (keep test (flat (reach fixFun n 0) (map fun ds)))
+    tables =
+        ap (map (λ d. table n (fun d))) (keep-same isNode (λ d. test (fun d)) R (λ d h. sym (tells d (okR d h))))
+        ∙ map-map (table n) fun (keep (λ d. test (fun d)) R)
+        ∙ ap (map (table n)) (sym (keep-map fun test R) ∙ ap (keep test) functions)
+
     pub count-kind : nodeCount ds ≡ distinct table-discrete (map (table n) (keep test (flat (reach fixFun n 0) (map fun ds))))
     unfolding nodeCount
     count-kind =
         distinct-same Diagram-discrete (keep isNode (flat subs ds)) (keep isNode R) to from
         ∙ sym (distinct-map (λ d. table n (fun d)) Diagram-discrete table-discrete (keep isNode R)
         (λ x y a b. table-inj x y (okR x (keep-in isNode x R a .0)) (okR y (keep-in isNode y R b .0))))
-        ∙ ap (distinct table-discrete)
-        (ap (map (λ d. table n (fun d))) (keep-same isNode (λ d. test (fun d)) R (λ d h. sym (tells d (okR d h))))
-        ∙ map-map (table n) fun (keep (λ d. test (fun d)) R)
-        ∙ ap (map (table n)) (sym (keep-map fun test R) ∙ ap (keep test) functions))
+        ∙ ap (distinct table-discrete) tables
+
+    -- EACH NODE'S FUNCTION is among those counted, and each of those is some node's
+    pub node-counted : (x : Diagram) → In x (keep isNode (flat subs ds)) → In (table n (fun x)) (map (table n) (keep test (flat (reach fixFun n 0) (map fun ds))))
+    node-counted x h = subst (In (table n (fun x))) tables (in-map (λ d. table n (fun d)) x (keep isNode R) (to x h))
+
+    pub counted-node : (X : List Bool) → In X (map (table n) (keep test (flat (reach fixFun n 0) (map fun ds)))) → (x : Diagram) × In x (keep isNode (flat subs ds)) × (table n (fun x) ≡ X)
+    counted-node X h = let (x, k, e) = map-in (λ d. table n (fun d)) X (keep isNode R) (subst (In X) (sym tables) h) in (x, from x k, sym e)

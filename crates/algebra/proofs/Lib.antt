@@ -4,6 +4,7 @@ pub mod Trim
 pub mod Kind
 pub mod Fix
 pub mod Join
+pub mod JoinLaws
 pub mod Subs
 pub mod Plain
 pub mod Reach

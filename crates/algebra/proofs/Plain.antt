@@ -10,7 +10,7 @@ use lib.ListN.{length}
 use Rattle.paper.specs.Lists.{In, keep, flat, has, distinct, Once}
 use Rattle.paper.specs.Sets.{Set, none, allSets}
 use Rattle.paper.specs.Functions.{fixF, reach, table, table-discrete, varies}
-use Rattle.paper.specs.Nodes.{nodesNeeded}
+use Rattle.paper.specs.Nodes.{needed, nodesNeeded}
 use Rattle.paper.specs.Diagrams.{Diagram, leaf, node, eval, Ordered, Reduced, mkD, Diagram-discrete}
 use Rattle.algebra.specs.Operations.{fixD, subs, isNode, nodeCount}
 use Rattle.algebra.proofs.Base.{widen}
@@ -18,7 +18,7 @@ use Rattle.algebra.proofs.Lists.{in-map, map-in, keep-map, in-has, has-
 use Rattle.algebra.proofs.Fix.{ordered-fix, reduced-fix, eval-fix, mk-fix, at-end, eval-agree}
 use Rattle.algebra.proofs.Trim.{trim, trim-all, trim-at}
 use Rattle.algebra.proofs.Subs.{subs-trans, fix-sub, sub-fix}
-use Rattle.algebra.proofs.Kind.{Kind, canonical-kind, count-kind}
+use Rattle.algebra.proofs.Kind.{Kind, canonical-kind, count-kind, node-counted, counted-node}
 
 abbrev pub Good : ℕ → ℕ → Diagram → Type 0
 Good n m d = Ordered m n d × Reduced d
@@ -93,6 +93,17 @@ pub count-law : (n : ℕ) (ds : List Diagram) → ((d : Diagram) → In d ds →
 unfolding nodesNeeded
 count-law n ds good = count-kind n (plain n) (λ F. varies (table n F)) (varies-node n) ds good
     ∙ ap (distinct table-discrete) (sym (keep-map (table n) varies (flat (reach fixF n 0) (map eval ds))))
+
+-- each node's function is needed, and each needed function is some node's
+module _ (n : ℕ) (ds : List Diagram) (good : (d : Diagram) → In d ds → Good n 0 d) where
+  by-test : map (table n) (keep (λ F. varies (table n F)) (flat (reach fixF n 0) (map eval ds))) ≡ needed n (map eval ds)
+  by-test = sym (keep-map (table n) varies (flat (reach fixF n 0) (map eval ds)))
+
+  pub node-needed : (x : Diagram) → In x (keep isNode (flat subs ds)) → In (table n (eval x)) (needed n (map eval ds))
+  node-needed x h = subst (In (table n (eval x))) by-test (node-counted n (plain n) (λ F. varies (table n F)) (varies-node n) ds good x h)
+
+  pub needed-node : (X : List Bool) → In X (needed n (map eval ds)) → (x : Diagram) × In x (keep isNode (flat subs ds)) × (table n (eval x) ≡ X)
+  needed-node X h = counted-node n (plain n) (λ F. varies (table n F)) (varies-node n) ds good X (subst (In X) (sym by-test) h)
 
 -- ---- what a table of nodes says of the count: xs are the diagrams of the stored nodes, each once
 

@@ -1,6 +1,6 @@
 -- A gate's value by the rule of its steps is what the gate means: all, some, or at least k of its inputs fail.
 -- Assumes nothing.
-use mathlib.Core.Path.{_≡_, refl, ap, ap₂, _∙_, fun-ext}
+use mathlib.Core.Path.{_≡_, refl, ap, _∙_, fun-ext}
 use mathlib.Core.Bool.{true, false}
 use mathlib.Core.List.{List, [], _∷_, _++_, map}
 use Prim.Native.Nat.{ℕ}
@@ -8,9 +8,8 @@ use lib.Dec.{leb}
 use Rattle.paper.specs.Sets.{Set}
 use Rattle.paper.specs.Functions.{Fun}
 use Rattle.paper.specs.Trees.{Input, event, gate, Gate, andG, orG, leastG, eventF, constF, everyFails, someFails, countFails, inputFun, gateFun, gateFunsFrom, gateFuns, TreeBelow}
-use Rattle.paper.specs.Steps.{joinAll, least, input, value, valuesFrom, joinF}
-use Rattle.paper.specs.Diagrams.{leaf}
-use Rattle.algebra.specs.Operations.{joinD, eventD, gateDiagrams}
+use Rattle.paper.specs.Steps.{joinAll, input, value, valuesFrom, joinF}
+use Rattle.algebra.specs.Operations.{gateDiagrams}
 use Rattle.algebra.proofs.Gates.{Pairs, Shows, all-law, some-law, least-law, values-show}
 
 inputs-rule : (gs : List Fun) (is : List Input) → map (input eventF constF joinF gs) is ≡ map (inputFun gs) is

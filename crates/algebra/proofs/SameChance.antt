@@ -1,12 +1,12 @@
 -- The two numbers of a diagram depend on its function alone, also where the diagram tests an event that does not matter.
 -- Assumes nothing.
-use mathlib.Core.Path.{_≡_, refl, sym, ap, ap₂, _∙_, fun-ext}
+use mathlib.Core.Path.{_≡_, sym, ap, ap₂, _∙_, fun-ext}
 use mathlib.Core.Bool.{Bool, true, false, cond}
-use Prim.Native.Nat.{ℕ, zero, suc, _+_, _*_, _-_, _/_, _≤_, _<_}
+use Prim.Native.Nat.{ℕ, zero, suc, _+_, _*_, _-_, _≤_, _<_}
 use native.Mathlib.Nat.{div-eq-of-lt-le, add-sub-of-le, suc-mul, mul-comm}
 use native.Mathlib.Omega.{arith}
-use Rattle.paper.specs.Sets.{Set, none, put}
-use Rattle.paper.specs.Diagrams.{Diagram, leaf, node, eval, Ordered}
+use Rattle.paper.specs.Sets.{none, put}
+use Rattle.paper.specs.Diagrams.{Diagram, eval, Ordered}
 use Rattle.paper.specs.Chance.{mix, bound, low, high}
 use Rattle.algebra.specs.Operations.{fixD}
 use Rattle.algebra.proofs.Fix.{Top, at, above, top, at-end, fix-at, fix-above, ordered-fix, eval-fix}

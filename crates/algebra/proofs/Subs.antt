@@ -1,16 +1,17 @@
 -- Sub-diagrams, and what fixing an event leaves of them.
 -- Assumes nothing.
-use mathlib.Core.Path.{_≡_, refl, subst}
+use mathlib.Core.Path.{_≡_, refl, sym, subst}
 use mathlib.Core.Logic.{_⊎_, inl, inr, ite}
 use mathlib.Core.Bool.{Bool, true, false, cond}
 use mathlib.Core.List.{_++_}
-use Prim.Native.Nat.{ℕ}
+use Prim.Native.Nat.{ℕ, suc}
+use native.Mathlib.Omega.{arith}
 use lib.Dec.{eqb}
 use Rattle.paper.specs.Lists.{In}
-use Rattle.paper.specs.Diagrams.{Diagram, leaf, node, Ordered, mkD, Diagram-discrete}
+use Rattle.paper.specs.Diagrams.{Diagram, leaf, node, Ordered, Reduced, mkD, Diagram-discrete}
 use Rattle.algebra.specs.Operations.{fixD, subs}
 use Rattle.algebra.specs.Families.{mkZ}
-use Rattle.algebra.proofs.Base.{cond-all, mk-cases}
+use Rattle.algebra.proofs.Base.{cond-all, mk-cases, widen}
 use Rattle.algebra.proofs.Lists.{in-left, in-right, in-append}
 use Rattle.algebra.proofs.Fix.{Top, at, above, top, fix-at, fix-above}
 
@@ -27,6 +28,24 @@ subs-trans x y (node e f s) h (inr k) = inr (go (in-append y (subs f) (subs s) k
     go : In y (subs f) ⊎ In y (subs s) → (In y (subs f) → In x (subs f)) → (In y (subs s) → In x (subs s)) → In x (subs f ++ subs s)
     go (inl k) a b = in-left x (subs f) (subs s) (a k)
     go (inr k) a b = in-right x (subs f) (subs s) (b k)
+
+-- what both branches inherit from a node, every part inherits
+pub part-inherits : (P : Diagram → Type 0) → ((e : ℕ) (f s : Diagram) → P (node e f s) → P f × P s) → (D x : Diagram) → P D → In x (subs D) → P x
+part-inherits P down (leaf b) x p (inl e) = subst P (sym e) p
+part-inherits P down (leaf b) x p (inr k) = absurd k
+part-inherits P down (node e f s) x p (inl q) = subst P (sym q) p
+part-inherits P down (node e f s) x p (inr k) =
+    go (in-append x (subs f) (subs s) k) (part-inherits P down f x (down e f s p .0)) (part-inherits P down s x (down e f s p .1))
+  where
+    go : In x (subs f) ⊎ In x (subs s) → (In x (subs f) → P x) → (In x (subs s) → P x) → P x
+    go (inl k) a b = a k
+    go (inr k) a b = b k
+
+pub part-reduced : (D x : Diagram) → Reduced D → In x (subs D) → Reduced x
+part-reduced = part-inherits Reduced (λ e f s r. (r .1, r .2))
+
+pub part-ordered : (n : ℕ) (D x : Diagram) → Ordered 0 n D → In x (subs D) → Ordered 0 n x
+part-ordered n = part-inherits (Ordered 0 n) (λ e f s o. (widen (suc e) 0 n f (omega arith) (o .2), widen (suc e) 0 n s (omega arith) (o .3)))
 
 pub fix-sub : (m : ℕ) (b : Bool) (d : Diagram) → In (fixD m b d) (subs d)
 fix-sub m b (leaf c) = inl refl

@@ -12,11 +12,12 @@ use Rattle.paper.specs.Sets.{Set, none, put}
 use Rattle.paper.specs.Functions.{Monotone}
 use Rattle.paper.specs.Diagrams.{Diagram, leaf, node, eval, Ordered, Reduced, Diagram-discrete}
 use Rattle.paper.specs.Cuts.{setsOf, Suppressed}
-use Rattle.algebra.specs.Operations.{isNode}
+use Rattle.algebra.specs.Operations.{isNode, subs}
 use Rattle.algebra.specs.Families.{mkZ, isOne, withoutD, cutsD}
 use Rattle.algebra.proofs.Base.{widen, put-other, Three, below, beyond, equal, three}
 use Rattle.algebra.proofs.Lists.{in-append, map-in, keep-map, keep-same, keep-all, keep-none, keep-append}
 use Rattle.algebra.proofs.Fix.{eval-put}
+use Rattle.algebra.proofs.Subs.{part-inherits}
 use Rattle.algebra.proofs.Plain.{canonical}
 use Rattle.algebra.proofs.Sets.{not-true, mono-failed, mono-sound, failed-branch}
 
@@ -26,6 +27,12 @@ mkz-cases P e f s a b = go (Diagram-discrete f (leaf false))
     go : (d : Dec (f ≡ leaf false)) → P (ite d s (node e f s))
     go (yes h) = a h
     go (no h) = b h
+
+pub mkz-none : (e : ℕ) (f s : Diagram) → f ≡ leaf false → mkZ e f s ≡ s
+mkz-none e f s q = mkz-cases (λ d. d ≡ s) e f s (λ _. refl) (λ n. absurd (n q))
+
+pub mkz-node : (e : ℕ) (f s : Diagram) → f ≢ leaf false → mkZ e f s ≡ node e f s
+mkz-node e f s n = mkz-cases (λ d. d ≡ node e f s) e f s (λ q. absurd (n q)) (λ _. refl)
 
 pub sets-mkz : (e : ℕ) (f s : Diagram) → setsOf (mkZ e f s) ≡ map (put e true) (setsOf f) ++ setsOf s
 sets-mkz e f s = mkz-cases (λ d. setsOf d ≡ map (put e true) (setsOf f) ++ setsOf s) e f s
@@ -132,6 +139,10 @@ without-sets n m (node e f s) o k g h =
 -- an ordered zero-suppressed diagram
 abbrev pub Tidy : ℕ → ℕ → Diagram → Type 0
 Tidy m n z = Ordered m n z × Suppressed z
+
+pub part-tidy : (n : ℕ) (D x : Diagram) → Tidy 0 n D → In x (subs D) → Tidy 0 n x
+part-tidy n =
+    part-inherits (Tidy 0 n) (λ e f s t. ((widen (suc e) 0 n f (omega arith) (t .0 .2), t .1 .1), (widen (suc e) 0 n s (omega arith) (t .0 .3), t .1 .2)))
 
 tidy-at : (m n e : ℕ) (z : Diagram) → m ≤ e → Tidy e n z → Tidy m n z
 tidy-at m n e z h (o, p) = (widen e m n z h o, p)

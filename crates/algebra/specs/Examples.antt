@@ -2,13 +2,12 @@
 -- Assumes nothing.
 use mathlib.Core.Path.{_≡_, refl}
 use mathlib.Core.Bool.{true, false}
-use mathlib.Core.List.{List, [], _∷_, map}
-use Prim.Native.Nat.{ℕ}
+use mathlib.Core.List.{[], _∷_, map}
 use native.Mathlib.Decide.{ℕ-discrete}
 use Rattle.paper.specs.Sets.{members}
 use Rattle.paper.specs.Diagrams.{Diagram, leaf, node}
 use Rattle.paper.specs.Cuts.{setsOf}
-use Rattle.algebra.specs.Operations.{joinD, eventD, nodeCount}
+use Rattle.algebra.specs.Operations.{joinD, eventD}
 use Rattle.algebra.specs.Families.{mkZ, withoutD, cutsD}
 
 -- the root's diagram, by its steps: figure 2

@@ -1,7 +1,7 @@
 -- Operations on the diagrams of families: a node with failed branch 0 is dropped, and a missing event is absent from the set.
 -- Assumes nothing.
 use mathlib.Core.Logic.{ite}
-use mathlib.Core.Bool.{Bool, true, false, cond}
+use mathlib.Core.Bool.{Bool, false, cond}
 use Prim.Native.Nat.{ℕ, zero, suc}
 use lib.Dec.{eqb, ltb}
 use Rattle.paper.specs.Sets.{Set}

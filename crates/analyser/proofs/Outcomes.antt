@@ -6,15 +6,13 @@ use Prim.Native.Nat.{ℕ}
 use native.Mathlib.Omega.{arith}
 use lib.ListN.{length}
 use Rattle.paper.specs.Limits.{limits}
-use Rattle.paper.specs.Trees as paper
 use Rattle.records.specs.Answers.{verdict}
-use Rattle.records.specs.Judge.{Book, Outcome, accept, refuse, outcome}
+use Rattle.records.specs.Judge.{Outcome, accept, refuse, outcome}
 use Rattle.records.specs.Memory.{inMemory}
-use Rattle.records.specs.Trees.{Lawful, treeOf}
+use Rattle.records.specs.Trees.{treeOf}
 use Rattle.records.specs.declared.Answer.{Answer}
 use Rattle.records.specs.declared.Answer.the-variants.{Done, Cut, UnknownKind, OutOfPlace, Count, Threshold, Reference, Chance, Unused, Room}
 use Rattle.records.specs.declared.Reading.{Reading}
-use Rattle.records.specs.declared.Tree.{Tree}
 use Rattle.records.proofs.Promises.{Good, done-is-good}
 use Rattle.analyser.specs.Memory.{Memory, Lengths}
 use Rattle.analyser.specs.Analysed.{Refused, at, Analysed}

@@ -1,18 +1,17 @@
 -- What the finished tables come to: from the builders' promises to the analysis' own.
 -- Assumes nothing.
 use mathlib.Core.Path.{_≡_, refl, sym, ap, ap₂, _∙_, subst}
-use mathlib.Core.Bool.{true, false}
+use mathlib.Core.Bool.{false}
 use mathlib.Core.List.{List, map}
-use Prim.Native.Nat.{ℕ, _+_, _-_, _*_, _/_, _%_, _≤_, _<_, max}
+use Prim.Native.Nat.{ℕ, _-_, _/_, _%_, _<_}
 use native.Mathlib.Omega.{arith}
 use lib.ListN.{length, getD, take, replicate, length-take}
 use Rattle.paper.specs.Limits.{limits}
-use Rattle.paper.specs.Trees.{events, rootFun, gateFuns}
+use Rattle.paper.specs.Trees.{events, rootFun}
 use Rattle.paper.specs.Trees as paper
 use Rattle.paper.specs.Diagrams.{eval}
-use Rattle.paper.specs.Answers.{NodesFull, CutsFull, cutNodesOf}
+use Rattle.paper.specs.Answers.{CutsFull, cutNodesOf}
 use Rattle.algebra.proofs.Without.{Fit}
-use Rattle.algebra.proofs.Gates.{Shows}
 use Rattle.tables.specs.Table.{den}
 use Rattle.tables.specs.Lent.{Lent}
 use Rattle.records.specs.Judge.{Book}
@@ -22,21 +21,22 @@ use Rattle.records.specs.declared.Event.{Event}
 use Rattle.records.specs.declared.Tree.{Tree}
 use Rattle.records.proofs.Pad.{pad-take}
 use Rattle.records.proofs.Lawful.{tree-below, tree-events, tree-gates}
-use Rattle.records.proofs.InMemory.{pad-at, gates-in-memory}
+use Rattle.records.proofs.InMemory.{gates-in-memory}
 use Rattle.paper.specs.Flat.{gatesOf}
 use Rattle.build.specs.Memory.{Arrays}
 use Rattle.build.proofs.Reading.{arrays-memory}
 use Rattle.build.specs.Finishing.{Areas, Whole, TooMany}
 use Rattle.build.proofs.Needed.{count-needed, needed-fits, needed-over}
-use Rattle.build.proofs.Meaning.{gate-shows, root-number, root-found, whole-lent}
+use Rattle.build.proofs.Meaning.{gate-shows, root-number, whole-lent}
 use Rattle.cuts.specs.Reading.{Readable}
 use Rattle.cuts.specs.Cutting.{cutNodes, CutTable, Room}
 use Rattle.cuts.proofs.Promises.{lent-readable, short-needs, done-needs, done-fits, done-list, done-lent}
 use Rattle.analyser.specs.Memory.{Memory, capacity, Zero, AllZero, Lengths}
 use Rattle.analyser.specs.Memory.{memory as areas}
-use Rattle.analyser.specs.Analysed.{Refused, at, Done, GateList}
+use Rattle.analyser.specs.Analysed.{Refused, at, Done}
 use Rattle.analyser.specs.Filling.{treeIn, WasRead, Sound, Ground, Settled, CutsFilled, Filled}
 use Rattle.analyser.specs.declared.Analysis.{Analysis}
+use Rattle.analyser.proofs.Holding.{whole-holds, table-holds}
 
 -- ---- the node table is finished
 
@@ -90,6 +90,8 @@ module _ {t : paper.Tree} {m : Memory} {root c : ℕ} (g : Ground t m root c) wh
         unique = cut .store .unique;
         behind = cut .store .behind;
       });
+      nodes-needed = rw (en, ac) (whole-holds (events t) (t .gates) (g .sound .below) (g .whole));
+      cuts-needed = rw (ec, ad) (table-holds (events t) (den (m .nodes) root) (rootFun (t .gates)) fits shows cut);
       nodes-long = ap length en;
       cuts-long = ap length ec ∙ long;
       gates-long = ap length eg;
@@ -143,6 +145,8 @@ module _ {m k : Memory} (s : SameLengths m k) where
     cut-count = z .cut-count;
     node-table = z .node-table;
     cut-table = z .cut-table;
+    nodes-needed = z .nodes-needed;
+    cuts-needed = z .cuts-needed;
     nodes-long = z .nodes-long ∙ s .nodes;
     cuts-long = z .cuts-long ∙ s .cuts;
     gates-long = z .gates-long ∙ s .gates;

@@ -6,12 +6,15 @@ use mathlib.Core.List.{List}
 use Prim.Native.Nat.{ℕ, _+_, _-_, _≤_, _<_}
 use lib.ListN.{length, getD}
 use Rattle.paper.specs.Limits.{limits}
-use Rattle.paper.specs.Functions.{Fun}
+use Rattle.paper.specs.Lists.{In}
+use Rattle.paper.specs.Functions.{table}
 use Rattle.paper.specs.Trees.{Tree, events, constF, gateFuns, rootFun}
-use Rattle.paper.specs.Nodes.{nodesOf}
+use Rattle.paper.specs.Steps.{stepFuns}
+use Rattle.paper.specs.Nodes.{needed, nodesOf}
 use Rattle.paper.specs.Diagrams.{eval}
-use Rattle.paper.specs.Cuts.{setsOf, cutList}
+use Rattle.paper.specs.Cuts.{setsOf, cutList, cutsNeeded}
 use Rattle.paper.specs.Answers.{Verdict, NodesFull, CutsFull, cutNodesOf}
+use Rattle.algebra.specs.Families.{holds}
 use Rattle.records.specs.Judge.{Book, accept, refuse, outcome}
 use Rattle.records.specs.Answers.{verdict}
 use Rattle.records.specs.Trees.{treeOf}
@@ -37,6 +40,18 @@ pub record Table (cut : Bool) (n : ℕ) (T : List ℕ) (c root : ℕ) : Type 0 w
   pub unique : Unique T c
   pub behind : ZeroBehind T c
 
+-- what number i says of n events: the function that it denotes; in a cut table the family, true at its sets
+abbrev pub functionOf : ℕ → List ℕ → ℕ → List Bool
+functionOf n T i = table n (eval (den T i))
+
+abbrev pub familyOf : ℕ → List ℕ → ℕ → List Bool
+familyOf n C i = table n (holds n 0 (den C i))
+
+-- the stored nodes are those that are needed: what each of c nodes says is needed, and each that is needed has a node
+pub record Holds (says : ℕ → List Bool) (c : ℕ) (needs : List (List Bool)) : Type 0 where
+  pub only : (i : ℕ) → 2 ≤ i → i < c + 2 → In (says i) needs
+  pub all : (X : List Bool) → In X needs → (i : ℕ) × (2 ≤ i) × (i < c + 2) × (says i ≡ X)
+
 -- the gate list: each gate's node denotes the gate's function, and behind them all is zero
 pub record GateList (t : Tree) (T G : List ℕ) (c : ℕ) : Type 0 where
   pub stored : (i : ℕ) → i < length (t .gates) → getD G i 0 < c + 2
@@ -51,6 +66,8 @@ pub record Done (t : Tree) (m m′ : Memory) (a : Analysis) : Type 0 where
   pub cut-count : a .«cut_nodes» ≡ cutNodesOf t
   pub node-table : Table false (events t) (m′ .nodes) (a .nodes) (a .root)
   pub cut-table : Table true (events t) (m′ .cuts) (a .«cut_nodes») (a .«cut_root»)
+  pub nodes-needed : Holds (functionOf (events t) (m′ .nodes)) (a .nodes) (needed (events t) (stepFuns (t .gates)))
+  pub cuts-needed : Holds (familyOf (events t) (m′ .cuts)) (a .«cut_nodes») (cutsNeeded (events t) (rootFun (t .gates)))
   pub nodes-long : length (m′ .nodes) ≡ length (m .nodes)
   pub cuts-long : length (m′ .cuts) ≡ length (m .cuts)
   pub gates-long : length (m′ .gates) ≡ length (m .gates)

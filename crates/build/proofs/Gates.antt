@@ -10,7 +10,7 @@ use lib.ListN.{length, take, drop, getD, length-drop}
 use lib.Seq.{take-suc, drop-drop, length-take-le, getD-take, getD-drop}
 use Rattle.paper.specs.Lists.{In, sum}
 use Rattle.paper.specs.Limits.{limits}
-use Rattle.paper.specs.Trees.{gate, Gate, andG}
+use Rattle.paper.specs.Trees.{Gate, andG}
 use Rattle.paper.specs.Steps.{valuesFrom, stepsFrom}
 use Rattle.paper.specs.Diagrams.{Diagram, leaf}
 use Rattle.algebra.specs.Operations.{joinD, eventD, gateDiagrams, stepDiagrams}

@@ -24,7 +24,8 @@ use Rattle.store.specs.Building.{Is, PartOf, Found, Stops, Builds, Tidy}
 use Rattle.store.specs.declared.Built.{Built}
 use Rattle.store.specs.declared.Built.the-variants.{Done, Short}
 use Rattle.store.proofs.Denotes.{below-or-not}
-use Rattle.store.proofs.Building.{makes-more, stops-more, is-part, sub-reduced, tidy-step}
+use Rattle.algebra.proofs.Subs.{part-reduced}
+use Rattle.store.proofs.Building.{makes-more, stops-more, is-part, tidy-step}
 use Rattle.build.specs.Rules.{inputD, eventStepsD}
 use Rattle.paper.specs.Flat.{gatesFrom, inputOf}
 use Rattle.build.specs.Making.{Row, Within, Made, Named, Names, Lined}
@@ -184,4 +185,4 @@ steps-reduced (event e ∷ is) d (inr h) = steps-reduced is d h
 steps-reduced (gate g ∷ is) d h = steps-reduced is d h
 
 pub events-tidy : (is : List Input) {T H X : List ℕ} {c : ℕ} {T′ H′ X′ : List ℕ} {c′ : ℕ} → Store T H X c → Tidy T c → Made (eventStepsD is) T c T′ H′ X′ c′ → Tidy T′ c′
-events-tidy is s t m = tidy-step s t (λ E p. sub-reduced (p .whole) E (steps-reduced is (p .whole) (p .member)) (p .part .inside)) (m .step)
+events-tidy is s t m = tidy-step s t (λ E p. part-reduced (p .whole) E (steps-reduced is (p .whole) (p .member)) (p .part .inside)) (m .step)

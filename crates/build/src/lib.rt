@@ -8,7 +8,7 @@ use joins::join;
 use least::at_least;
 use paper::INPUTS;
 use store::Built;
-use store::clear;
+use tables::clear;
 ghost use mathlib.Core.Path.{_≡_};
 ghost use mathlib.Core.List.{map};
 ghost use Prim.Native.Nat.{_+_, _/_, _<_, _≤_};

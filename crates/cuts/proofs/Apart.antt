@@ -3,25 +3,22 @@
 use mathlib.Core.Path.{_≡_, refl, sym, ap, _∙_, subst}
 use mathlib.Core.Bool.{Bool, true, false}
 use mathlib.Core.List.{List}
-use Prim.Native.Nat.{ℕ, zero, suc, _+_, _-_, _<_, _≤_, min}
+use Prim.Native.Nat.{ℕ, zero, suc, _-_, _<_, _≤_, min}
 use native.Mathlib.Omega.{arith}
 use borrow.Author.Tests.{lt-ltb, le-ltb}
 use Rattle.paper.specs.Limits.{limits}
 use Rattle.paper.specs.Diagrams.{Diagram, leaf, node, Ordered}
 use Rattle.algebra.specs.Families.{mkZ, withoutD}
 use Rattle.algebra.proofs.Base.{widen}
-use Rattle.algebra.proofs.Without.{mkz-cases}
 use Rattle.tables.specs.Table.{eventOf, failedOf, soundOf, den}
-use Rattle.tables.specs.Stored.{Lower}
 use Rattle.tables.proofs.Den.{den-0, den-1, den-node}
 use Rattle.store.specs.Store.{Store}
-use Rattle.store.specs.Building.{Found}
-use Rattle.store.specs.Memo.{Place, Recalls}
+use Rattle.store.specs.Memo.{Recalls}
 use Rattle.store.specs.declared.Known.{Known}
 use Rattle.store.specs.declared.Known.the-variants.{Node, Unknown}
 use Rattle.store.proofs.Memory.{memo-hit}
-use Rattle.cuts.specs.Reading.{Held, Readable, top}
-use Rattle.cuts.specs.Without.{Right, Family, Ready, Answered, Missed, Asked, Passed, Parted}
+use Rattle.cuts.specs.Reading.{Readable, top}
+use Rattle.cuts.specs.Without.{Family, Answered, Asked, Passed, Parted}
 use Rattle.cuts.specs.declared.Parts.{Parts}
 
 -- ---- a leaf

@@ -2,20 +2,19 @@
 -- Assumes nothing.
 use mathlib.Core.Path.{_≡_, refl, sym, ap, _∙_, subst}
 use mathlib.Core.Logic.{_≢_, _⊎_, inl, inr}
-use mathlib.Core.Bool.{Bool, true, false, true≢false}
+use mathlib.Core.Bool.{Bool, true, false}
 use mathlib.Core.List.{List}
-use Prim.Native.Nat.{ℕ, zero, suc, _+_, _-_, _*_, _<_, _≤_}
+use Prim.Native.Nat.{ℕ, _+_, _-_, _<_, _≤_}
 use native.Mathlib.Decide.{ℕ-discrete}
 use native.Mathlib.Omega.{arith}
 use lib.ListN.{length, getD, set, replicate, length-set, length-replicate}
 use lib.Seq.{getD-set-same, getD-set-other}
 use Rattle.paper.specs.Lists.{In}
 use Rattle.paper.specs.Diagrams.{Diagram, leaf, node}
-use Rattle.algebra.specs.Operations.{subs, isNode}
+use Rattle.algebra.specs.Operations.{subs}
 use Rattle.algebra.proofs.Lists.{in-append, in-left, in-right}
 use Rattle.algebra.proofs.Subs.{subs-self, subs-trans}
 use Rattle.tables.specs.Table.{eventOf, failedOf, soundOf, den}
-use Rattle.tables.specs.Stored.{Lower}
 use Rattle.tables.proofs.Den.{den-0, den-1, den-node, den-ind}
 use Rattle.store.proofs.Zeros.{zero-at}
 use Rattle.cuts.specs.Reading.{Held}

@@ -1,27 +1,26 @@
 -- One node on the way up: the cuts of its failed branch without its sound branch, under its event, over the cuts of its sound branch.
 -- Assumes nothing.
-use mathlib.Core.Path.{_≡_, refl, sym, ap, ap₂, _∙_, subst}
+use mathlib.Core.Path.{_≡_, sym, ap, ap₂, _∙_, subst}
 use mathlib.Core.List.{List}
-use Prim.Native.Nat.{ℕ, suc, _+_, _-_, _*_, _<_, _≤_}
+use Prim.Native.Nat.{ℕ, suc, _+_, _-_, _*_, _<_}
 use native.Mathlib.Omega.{arith}
 use lib.ListN.{length, getD}
 use Rattle.paper.specs.Limits.{limits}
-use Rattle.paper.specs.Diagrams.{Diagram, leaf, node, Ordered}
+use Rattle.paper.specs.Diagrams.{Diagram, node, Ordered}
 use Rattle.algebra.specs.Families.{mkZ, withoutD, cutsD}
 use Rattle.algebra.proofs.Base.{widen}
 use Rattle.algebra.proofs.Without.{tidy-cuts}
 use Rattle.tables.specs.Table.{eventOf, failedOf, soundOf, den}
 use Rattle.tables.proofs.Den.{den-node}
 use Rattle.store.specs.Store.{Store}
-use Rattle.store.specs.Building.{Is, Part, Found, Step, Makes, Stops, Builds}
+use Rattle.store.specs.Building.{Is, Part, Found, Step, Stops, Builds}
 use Rattle.store.specs.declared.Built.{Built}
 use Rattle.store.specs.declared.Built.the-variants.{Done, Short}
 use Rattle.store.proofs.Denotes.{found-grown}
 use Rattle.store.proofs.Building.{makes-seq, stops-more, stops-seq, step-more}
-use Rattle.cuts.specs.Reading.{Readable}
 use Rattle.cuts.specs.Without.{Ready, Taken, Takes}
 use Rattle.cuts.specs.Cutting.{Turn}
-use Rattle.cuts.proofs.Recursion.{part-failed, part-sound, part-self, right-grown, readable-low}
+use Rattle.cuts.proofs.Recursion.{part-failed, part-self, right-grown, readable-low}
 
 module _ {C H X : List ℕ} {d : ℕ} {M T O : List ℕ} {i : ℕ} (t : Turn C H X d M T O i) where
   abbrev e : ℕ

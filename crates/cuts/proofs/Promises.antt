@@ -1,23 +1,24 @@
 -- What a cut table comes to, in the rules' own words, where the root's diagram is ordered, reduced and monotone.
 -- Assumes nothing.
-use mathlib.Core.Path.{_≡_, refl, sym, ap, _∙_, subst}
-use mathlib.Core.Logic.{_≢_, _⊎_, inl, inr, _↔_}
-use mathlib.Core.Bool.{Bool, true, false}
+use mathlib.Core.Path.{_≡_, sym, ap, _∙_, subst}
+use mathlib.Core.Logic.{_↔_}
+use mathlib.Core.Bool.{Bool, true}
 use mathlib.Core.List.{List}
 use Prim.Native.Nat.{ℕ, suc, _+_, _-_, _*_, _/_, _%_, _<_, _≤_}
 use native.Mathlib.Omega.{arith}
 use lib.ListN.{length}
-use Rattle.paper.specs.Limits.{limits, mostNumbers}
+use Rattle.paper.specs.Limits.{limits}
 use Rattle.paper.specs.Lists.{In, keep}
 use Rattle.paper.specs.Sets.{Set}
 use Rattle.paper.specs.Functions.{Fun}
-use Rattle.paper.specs.Diagrams.{Diagram, leaf, node, eval, Ordered}
-use Rattle.paper.specs.Cuts.{MinimalCut, setsOf, cutList, cutNodesNeeded, Suppressed}
+use Rattle.paper.specs.Diagrams.{Diagram, eval, Ordered}
+use Rattle.paper.specs.Cuts.{MinimalCut, setsOf, cutList, cutNodesNeeded}
 use Rattle.algebra.specs.Operations.{subs, isNode}
 use Rattle.algebra.specs.Families.{cutsD}
-use Rattle.algebra.proofs.Base.{widen}
-use Rattle.algebra.proofs.Lists.{in-append, keep-in, map-in}
-use Rattle.algebra.proofs.Without.{Fit, Tidy, tidy-cuts}
+use Rattle.algebra.proofs.Base.{lengthen}
+use Rattle.algebra.proofs.Lists.{keep-in, map-in}
+use Rattle.algebra.proofs.Subs.{part-ordered}
+use Rattle.algebra.proofs.Without.{Fit, Tidy, part-tidy, tidy-cuts}
 use Rattle.algebra.proofs.Promises.{lists-all, listed-exactly, cut-nodes}
 use Rattle.tables.specs.Table.{eventOf, failedOf, soundOf, den}
 use Rattle.tables.specs.Stored.{Lower}
@@ -29,16 +30,11 @@ use Rattle.store.specs.declared.Built.{Built}
 use Rattle.store.specs.declared.Built.the-variants.{Done, Short}
 use Rattle.cuts.specs.Reading.{Readable}
 use Rattle.cuts.specs.Cutting.{cutNodes, CutTable, Cuts, Full}
-use Rattle.cuts.proofs.Up.{ordered-sub}
 
 -- ---- what the analysis has can be read
 
-ordered-more : (m n k : ℕ) (d : Diagram) → n ≤ k → Ordered m n d → Ordered m k d
-ordered-more m n k (leaf b) l o = tt
-ordered-more m n k (node e f s) l o = (o .0, omega (arith, o .1), ordered-more (suc e) n k f l (o .2), ordered-more (suc e) n k s l (o .3))
-
 pub readable : {T : List ℕ} {c i n : ℕ} → 3 * c ≤ length T → Lower T c → i < c + 2 → n ≤ limits .events → Ordered 0 n (den T i) → Readable T i
-readable {T} {c} {i} {n} fits low l m o = record { held = record { count = c; fits = fits; lower = low; within = l }; ordered = ordered-more 0 n (limits .events) (den T i) m o }
+readable {T} {c} {i} {n} fits low l m o = record { held = record { count = c; fits = fits; lower = low; within = l }; ordered = lengthen 0 n (limits .events) (den T i) m o }
 
 pub lent-readable : {cut : Bool} {n : ℕ} {T : List ℕ} {c root i : ℕ} → Lent cut n T c root → i < c + 2 → Readable T i
 lent-readable lent l = readable (lent .fits) (lent-lower lent) l (lent .few-events) (lent-ordered lent l)
@@ -77,16 +73,6 @@ tables-agree {C = C} t u = (t .count ∙ sym (u .count), t .root .is ∙ sym (u 
 
 -- ---- the cut table passes the check of a lent cut diagram
 
-tidy-sub : (n m : ℕ) (D x : Diagram) → Tidy m n D → In x (subs D) → Tidy 0 n x
-tidy-sub n m (leaf b) x t (inl e) = subst (Tidy 0 n) (sym e) (tt, tt)
-tidy-sub n m (leaf b) x t (inr k) = absurd k
-tidy-sub n m (node e f s) x (o, p) (inl q) = subst (Tidy 0 n) (sym q) (widen m 0 n (node e f s) (omega arith) o, p)
-tidy-sub n m (node e f s) x (o, p) (inr k) = go (in-append x (subs f) (subs s) k) (tidy-sub n (suc e) f x (o .2, p .1)) (tidy-sub n (suc e) s x (o .3, p .2))
-  where
-    go : In x (subs f) ⊎ In x (subs s) → (In x (subs f) → Tidy 0 n x) → (In x (subs s) → Tidy 0 n x) → Tidy 0 n x
-    go (inl k) a b = a k
-    go (inr k) a b = b k
-
 -- a node of rising events keeps the rules of a lent table
 top-above : {T : List ℕ} {c : ℕ} → Lower T c → (n e b : ℕ) → b < c + 2 → Ordered (suc e) n (den T b) → Above T e b
 top-above {T} low n e b l o two = subst (Ordered (suc e) n) (den-node low b two l) o .0
@@ -100,7 +86,7 @@ module _ {D : Diagram} {C H X : List ℕ} {d r : ℕ} (t : CutTable D C H X d r)
   tidy i a b =
       let w = t .only .each i a b in
       let (x, k, e) = map-in cutsD (w .whole) (keep isNode (subs D)) (w .member) in
-      tidy-sub n 0 (cutsD x) (den C i) (tidy-cuts n 0 x (ordered-sub n 0 D x ordered (keep-in isNode x (subs D) k .0)))
+      part-tidy n (cutsD x) (den C i) (tidy-cuts n 0 x (part-ordered n D x ordered (keep-in isNode x (subs D) k .0)))
       (subst (λ y. In (den C i) (subs y)) e (w .part .inside))
 
   rules : (i : ℕ) → 2 ≤ i → i < d + 2 → Node n C i × Kind true C i

@@ -1,8 +1,8 @@
 -- The recursion of without: one section for each call, one law for each need.
 -- Assumes nothing.
-use mathlib.Core.Path.{_≡_, refl, sym, ap, ap₂, _∙_, subst}
+use mathlib.Core.Path.{_≡_, sym, ap, ap₂, _∙_, subst}
 use mathlib.Core.Logic.{_⊎_, inl, inr}
-use mathlib.Core.Bool.{Bool, true, false, true≢false}
+use mathlib.Core.Bool.{true, false, true≢false}
 use mathlib.Core.List.{List}
 use Prim.Native.Nat.{ℕ, suc, _+_, _-_, _/_, _<_, _≤_, min}
 use native.Mathlib.Omega.{arith}
@@ -16,15 +16,15 @@ use Rattle.algebra.proofs.Base.{widen}
 use Rattle.algebra.proofs.Subs.{subs-self, subs-trans, mkz-subs}
 use Rattle.tables.specs.Table.{den}
 use Rattle.store.specs.Store.{Store, Grown}
-use Rattle.store.specs.Building.{Is, Part, Found, Step, Makes, Lacks, Stops, Builds}
+use Rattle.store.specs.Building.{Is, Part, Found, Step, Makes, Stops}
 use Rattle.store.specs.Memo.{Memo, Place}
 use Rattle.store.specs.declared.Built.{Built}
 use Rattle.store.specs.declared.Built.the-variants.{Done, Short}
 use Rattle.store.proofs.Denotes.{den-grown, found-grown}
-use Rattle.store.proofs.Building.{makes-here, makes-more, makes-seq, stops-more, stops-seq, step-more, step-seq, still}
+use Rattle.store.proofs.Building.{makes-here, makes-seq, stops-more, stops-seq, step-more, step-seq, still}
 use Rattle.store.proofs.Memory.{memo-keep, memo-map}
-use Rattle.cuts.specs.Reading.{Held, Readable, top, remain}
-use Rattle.cuts.specs.Without.{Right, Family, Ready, Answered, Parted, Finishes, Taken, Takes}
+use Rattle.cuts.specs.Reading.{Readable, top, remain}
+use Rattle.cuts.specs.Without.{Right, Ready, Answered, Parted, Finishes, Taken, Takes}
 use Rattle.cuts.specs.declared.Parts.{Parts}
 
 -- ---- parts of a node made for families

@@ -1,44 +1,34 @@
 -- The way up: the cuts of each number that the root reaches, from the leaves to the root.
 -- Assumes nothing.
-use mathlib.Core.Path.{_≡_, refl, sym, ap, _∙_, subst}
-use mathlib.Core.Logic.{_≢_, _⊎_, inl, inr}
-use mathlib.Core.List.{List, map}
-use Prim.Native.Nat.{ℕ, zero, suc, _+_, _*_, _/_, _<_, _≤_}
+use mathlib.Core.Path.{_≡_, sym, ap, _∙_, subst}
+use mathlib.Core.Logic.{_≢_}
+use mathlib.Core.List.{List}
+use Prim.Native.Nat.{ℕ, zero, suc, _+_, _/_, _<_, _≤_}
 use native.Mathlib.Decide.{ℕ-discrete}
 use native.Mathlib.Omega.{arith}
-use lib.ListN.{length, getD, set, replicate, length-set, length-replicate}
+use lib.ListN.{length, getD, set, replicate, length-set}
 use lib.Seq.{getD-set-same, getD-set-other}
-use Rattle.paper.specs.Limits.{limits, mostNumbers}
+use Rattle.paper.specs.Limits.{limits}
 use Rattle.paper.specs.Lists.{In, keep}
-use Rattle.paper.specs.Diagrams.{Diagram, leaf, node, Ordered}
-use Rattle.algebra.specs.Operations.{subs, isNode, nodeCount}
+use Rattle.paper.specs.Diagrams.{Diagram, node}
+use Rattle.algebra.specs.Operations.{subs, isNode}
 use Rattle.algebra.specs.Families.{cutsD}
-use Rattle.algebra.proofs.Base.{widen}
-use Rattle.algebra.proofs.Lists.{in-append, in-keep, keep-in, in-map, map-in}
+use Rattle.algebra.proofs.Subs.{part-ordered}
+use Rattle.algebra.proofs.Lists.{in-keep, keep-in, in-map, map-in}
 use Rattle.tables.specs.Table.{failedOf, soundOf, den}
 use Rattle.tables.proofs.Den.{den-0, den-1}
 use Rattle.store.specs.Store.{Store}
-use Rattle.store.specs.Building.{Part, PartOf, Found, Has, Step, Stops, Only}
+use Rattle.store.specs.Building.{Part, PartOf, Found, Step, Stops, Only}
 use Rattle.store.specs.Memo.{Memo, Places}
 use Rattle.store.proofs.Denotes.{found-grown, found-whole, den-is-node}
 use Rattle.store.proofs.Building.{step-more, lacks-more, only-none, only-step}
 use Rattle.store.proofs.Zeros.{store-cleared, memo-cleared}
 use Rattle.store.proofs.Counting.{nodes-done, nodes-full}
-use Rattle.cuts.specs.Reading.{Held, Readable}
+use Rattle.cuts.specs.Reading.{Held}
 use Rattle.cuts.specs.Without.{Right, Taken}
-use Rattle.cuts.specs.Reach.{Reached, here, failed, sound, Marked}
+use Rattle.cuts.specs.Reach.{Reached, here, failed, sound}
 use Rattle.cuts.specs.Cutting.{families, cutNodes, CutTable, Room, Turn, Halfway, Base}
 use Rattle.cuts.proofs.Marks.{held-low, failed-below, sound-below, reached-held as reached-low, reached-sub, sub-reached}
-
-pub ordered-sub : (n m : ℕ) (D x : Diagram) → Ordered m n D → In x (subs D) → Ordered 0 n x
-ordered-sub n m (leaf b) x o (inl e) = subst (Ordered 0 n) (sym e) tt
-ordered-sub n m (leaf b) x o (inr k) = absurd k
-ordered-sub n m (node e f s) x o (inl q) = subst (Ordered 0 n) (sym q) (widen m 0 n (node e f s) (omega arith) o)
-ordered-sub n m (node e f s) x o (inr k) = go (in-append x (subs f) (subs s) k) (ordered-sub n (suc e) f x (o .2)) (ordered-sub n (suc e) s x (o .3))
-  where
-    go : In x (subs f) ⊎ In x (subs s) → (In x (subs f) → Ordered 0 n x) → (In x (subs s) → Ordered 0 n x) → Ordered 0 n x
-    go (inl k) a b = a k
-    go (inr k) a b = b k
 
 -- the areas keep their lengths
 pub record Lengths (C₀ H₀ X₀ M₀ O₀ C H X M O : List ℕ) : Type 0 where
@@ -104,7 +94,7 @@ module _ {T K : List ℕ} {root : ℕ} (base : Base T K root) where
       up-turn l = record {
         store = h .store;
         memo = h .memo;
-        function = record { held = held; ordered = ordered-sub (limits .events) 0 D (den T i) (base .function .ordered) stands };
+        function = record { held = held; ordered = part-ordered (limits .events) D (den T i) (base .function .ordered) stands };
         node = two;
         long = omega arith;
         failed = h .own (failedOf T i) (failed-below held two) (base .marked .all (failedOf T i) (failed i reached two));

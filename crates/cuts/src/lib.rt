@@ -232,7 +232,7 @@ pub fn mark(nodes: &[u32], marks: &mut [u32], root: usize)
     requires { ⌜ root < length (now marks) ⌝ }
     ensures { λ _. ⌜ Marked (now (nodes .entry)) root (now (marks .exit)) ⌝ }
 {
-    store::clear(marks);
+    tables::clear(marks);
     marks[root] = 1;
     let mut i = root;
     while 2 <= i {
@@ -347,9 +347,9 @@ fn cuts_over(
     requires { ⌜ Places (now memo) ⌝ }
     ensures { λ r. ⌜ Cuts (den (now (nodes .entry)) root) (now (cut .exit)) (now (heads .exit)) (now (next .exit)) r ⌝ }
 {
-    store::clear(cut);
-    store::clear(heads);
-    store::clear(memo);
+    tables::clear(cut);
+    tables::clear(heads);
+    tables::clear(memo);
     mark(nodes, marks, root);
     own[0] = 0;
     own[1] = 1;

@@ -14,7 +14,7 @@ use Rattle.store.specs.Store.{Store}
 use Rattle.store.proofs.Denotes.{below-or-not}
 use Rattle.joins.specs.Joins.{Arranged, Parted}
 use Rattle.joins.specs.declared.Parts.{Parts}
-use Rattle.joins.proofs.Algebra.{join-first, join-second, join-both, join-comm}
+use Rattle.algebra.proofs.JoinLaws.{join-first, join-second, join-both, join-comm}
 
 -- which operand is first is no matter
 pub join-arranged : (T : List ℕ) (z : Bool) (a b x y : ℕ) → x ≡ min a b → y ≡ max a b → joinD z (den T x) (den T y) ≡ joinD z (den T a) (den T b)

@@ -16,7 +16,7 @@ use Rattle.store.specs.declared.Known.the-variants.{Node, Unknown}
 use Rattle.store.proofs.Building.{makes-here}
 use Rattle.store.proofs.Memory.{memo-hit}
 use Rattle.joins.specs.Joins.{bit, Ready, Joined, Answers, Asked}
-use Rattle.joins.proofs.Algebra.{join-decides, join-passes, join-same}
+use Rattle.algebra.proofs.JoinLaws.{join-decides, join-passes, join-same}
 
 pub den-leaf : (T : List ℕ) (z : ℕ) → z < 2 → den T z ≡ leaf (bit z)
 den-leaf T zero l = den-0 T

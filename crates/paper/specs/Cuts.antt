@@ -34,13 +34,17 @@ fixFam m b X S = cond (S m) false (X (put m b S))
 abbrev pub proper : ℕ → Fun → Bool
 proper n X = has Bool-discrete true (map X (keep (someEvent n 0) (allSets n 0)))
 
--- CUT NODES NEEDED: take the minimal cuts of every non-constant function that fixing the first events leaves of F, and from each
--- such family, for each m and each choice among the first m events, the sets that agree with the choice, less those events;
--- count the distinct families other than none and the empty set alone
+-- THE FAMILIES NEEDED, by their tables: take the minimal cuts of every non-constant function that fixing the first events leaves of F,
+-- and from each such family, for each m and each choice among the first m events, the sets that agree with the choice, less those
+-- events; keep the families other than none and the empty set alone
+abbrev pub cutsNeeded : ℕ → Fun → List (List Bool)
+cutsNeeded n F =
+    map (table n) (keep (proper n)
+    (flat (reach fixFam n 0) (map (minimalF n) (keep (λ G. varies (table n G)) (reach fixF n 0 F)))))
+
+-- CUT NODES NEEDED: the number of distinct ones
 unfoldable pub cutNodesNeeded : ℕ → Fun → ℕ
-cutNodesNeeded n F =
-    distinct table-discrete (map (table n) (keep (proper n)
-    (flat (reach fixFam n 0) (map (minimalF n) (keep (λ G. varies (table n G)) (reach fixF n 0 F))))))
+cutNodesNeeded n F = distinct table-discrete (cutsNeeded n F)
 
 -- ---- the family of a diagram: an event that is missing on the way is absent from the set
 

@@ -9,10 +9,14 @@ use Rattle.paper.specs.Functions.{Fun, fixF, reach, table, table-discret
 use Rattle.paper.specs.Trees.{Tree, events}
 use Rattle.paper.specs.Steps.{stepFuns}
 
--- NODES NEEDED: the number of distinct non-constant functions obtained from one of these functions of n events
+-- THE FUNCTIONS NEEDED, by their tables: the non-constant ones obtained from one of these functions of n events
 -- by fixing the first m events in some way, m from 0 to n
+abbrev pub needed : ℕ → List Fun → List (List Bool)
+needed n Fs = keep varies (map (table n) (flat (reach fixF n 0) Fs))
+
+-- NODES NEEDED: the number of distinct ones
 unfoldable pub nodesNeeded : ℕ → List Fun → ℕ
-nodesNeeded n Fs = distinct table-discrete (keep varies (map (table n) (flat (reach fixF n 0) Fs)))
+nodesNeeded n Fs = distinct table-discrete (needed n Fs)
 
 -- by the first g gates of a tree, and by all of them
 abbrev pub nodesToGate : Tree → ℕ → ℕ

@@ -8,13 +8,12 @@ use Prim.Native.Nat.{ℕ, zero, suc, _+_, _-_, _*_, _<_, _≤_}
 use native.Mathlib.Omega.{arith}
 use lib.ListN.{getD, length, set}
 use Rattle.paper.specs.Lists.{In}
-use Rattle.paper.specs.Diagrams.{Diagram, leaf, node, Reduced, mkD}
+use Rattle.paper.specs.Diagrams.{Diagram, node, Reduced, mkD}
 use Rattle.algebra.specs.Operations.{subs, isNode}
 use Rattle.algebra.specs.Families.{mkZ}
 use Rattle.algebra.proofs.Base.{mk-same, mk-node}
-use Rattle.algebra.proofs.Lists.{in-append}
 use Rattle.algebra.proofs.Subs.{subs-self, subs-trans}
-use Rattle.algebra.proofs.Without.{mkz-cases}
+use Rattle.algebra.proofs.Without.{mkz-none, mkz-node}
 use Rattle.tables.specs.Table.{failedOf, soundOf, den}
 use Rattle.tables.proofs.Den.{den-0, den-1, den-node}
 use Rattle.store.specs.Store.{First, Store, Put, Sought}
@@ -92,16 +91,6 @@ pub only-more : {W Y : Diagram → Type 0} {T : List ℕ} {c : ℕ} → ((E : Di
 only-more {T = T} u o = record { each = λ i a b. u (den T i) (o .each i a b) }
 
 -- ---- every number denotes a reduced diagram
-
-pub sub-reduced : (D E : Diagram) → Reduced D → In E (subs D) → Reduced E
-sub-reduced (leaf b) E r (inl e) = subst Reduced (sym e) r
-sub-reduced (leaf b) E r (inr h) = absurd h
-sub-reduced (node e f s) E r (inl q) = subst Reduced (sym q) r
-sub-reduced (node e f s) E r (inr h) = go (in-append E (subs f) (subs s) h) (sub-reduced f E (r .1)) (sub-reduced s E (r .2))
-  where
-    go : In E (subs f) ⊎ In E (subs s) → (In E (subs f) → Reduced E) → (In E (subs s) → Reduced E) → Reduced E
-    go (inl h) a b = a h
-    go (inr h) a b = b h
 
 pub tidy-none : (T : List ℕ) → Tidy T 0
 tidy-none T = record { reduced = λ i b. go i b }
@@ -184,12 +173,6 @@ module _ {T H X : List ℕ} {c e f s : ℕ} (t : Store T H X c) where
         }
 
 -- ---- a node with a rule for what is dropped
-
-mkz-none : (e : ℕ) (f s : Diagram) → f ≡ leaf false → mkZ e f s ≡ s
-mkz-none e f s q = mkz-cases (λ d. d ≡ s) e f s (λ _. refl) (λ n. absurd (n q))
-
-mkz-node : (e : ℕ) (f s : Diagram) → f ≢ leaf false → mkZ e f s ≡ node e f s
-mkz-node e f s n = mkz-cases (λ d. d ≡ node e f s) e f s (λ q. absurd (n q)) (λ _. refl)
 
 module _ {T H X : List ℕ} {c : ℕ} (t : Store T H X c) (e : ℕ) {f s : ℕ} (lf : f < c + 2) (ls : s < c + 2) where
   pub made-same : f ≡ s → Makes (Is (mkD e (den T f) (den T s))) T c (mkD e (den T f) (den T s)) T H X c f

@@ -1,13 +1,11 @@
 -- Cleared memory: a store of no nodes, and a memo that says nothing.
 -- Assumes nothing.
-use mathlib.Core.Path.{_≡_, refl, sym, subst, _∙_}
+use mathlib.Core.Path.{_≡_, sym, subst}
 use mathlib.Core.Logic.{_⊎_, inl, inr}
 use mathlib.Core.List.{List}
-use Prim.Native.Nat.{ℕ, _+_, _*_, _<_, _≤_}
+use Prim.Native.Nat.{ℕ, _*_, _<_, _≤_}
 use native.Mathlib.Omega.{arith}
-use lib.ListN.{length, getD, set, replicate, length-set, length-replicate, getD-replicate, List·getD-eq-default}
-use lib.Seq.{getD-set-same, getD-set-other, ext-getD}
-use borrow.Author.Count.{below-more}
+use lib.ListN.{length, getD, replicate, length-replicate, getD-replicate, List·getD-eq-default}
 use Rattle.paper.specs.Limits.{mostNumbers}
 use Rattle.store.specs.Store.{Store}
 use Rattle.store.specs.Memo.{Memo, Places}
@@ -48,26 +46,3 @@ store-cleared t h X a b d =
 
 pub memo-cleared : {P : ℕ → ℕ → ℕ → ℕ → Type 0} (M : List ℕ) → Places M → Memo P (replicate (length M) 0)
 memo-cleared M p = let n = length M in record { places = places-kept (length-replicate {A = ℕ} n 0) p; each = λ j e. absurd (e (zero-at n (4 * j))) }
-
--- ---- the loop that clears
-
--- the first i numbers of L are 0
-pub record Cleared (L₀ : List ℕ) (i : ℕ) (L : List ℕ) : Type 0 where
-  pub to : i ≤ length L₀
-  pub long : length L ≡ length L₀
-  pub zero : (k : ℕ) → k < i → getD L k 0 ≡ 0
-
-pub cleared-none : (L : List ℕ) → Cleared L 0 L
-cleared-none L = record { to = omega arith; long = refl; zero = λ k l. absurd (omega arith) }
-
-pub cleared-more : {L₀ L : List ℕ} {i : ℕ} → i < length L → Cleared L₀ i L → Cleared L₀ (i + 1) (set L i 0)
-cleared-more {L₀} {L} {i} l a = record {
-  to = let z = a .long in omega arith;
-  long = length-set L i 0 ∙ a .long;
-  zero = below-more (λ k. getD (set L i 0) k 0 ≡ 0) i (λ k m. getD-set-other L i k 0 0 (omega arith) ∙ a .zero k m) (getD-set-same L i 0 0 l);
-}
-
-pub cleared-all : {L₀ L : List ℕ} {i : ℕ} → length L ≤ i → Cleared L₀ i L → L ≡ replicate (length L₀) 0
-cleared-all {L₀} {L} {i} l a =
-    ext-getD 0 L (replicate (length L₀) 0) (a .long ∙ sym (length-replicate (length L₀) 0))
-    (λ k m. a .zero k (omega arith) ∙ sym (zero-at (length L₀) k))

@@ -3,7 +3,7 @@
 ghost use mathlib.Core.Path.{_≡_};
 ghost use mathlib.Core.Bool.{true, false};
 ghost use Prim.Native.Nat.{_+_, _*_, _<_, _≤_};
-ghost use lib.ListN.{length, replicate};
+ghost use lib.ListN.{length};
 ghost use Rattle.paper.specs.Diagrams.{node, mkD};
 ghost use Rattle.algebra.specs.Families.{mkZ};
 ghost use Rattle.tables.specs.Table.{den};
@@ -227,15 +227,4 @@ pub fn keep(memo: &mut [u32], at: usize, op: u32, f: u32, g: u32, r: u32)
     memo[at + 1] = f;
     memo[at + 2] = g;
     memo[at + 3] = r;
-}
-
-// Zero to the last number.
-pub fn clear(area: &mut [u32])
-    ensures { λ _. ⌜ now (area .exit) ≡ replicate (length (now (area .entry))) 0 ⌝ }
-{
-    let mut i = 0;
-    while i < area.len() {
-        area[i] = 0;
-        i += 1;
-    }
 }

@@ -63,7 +63,7 @@ impl Analysis {
             event_count: self.tree.event_count,
             table: self.robdd.nodes.table(),
             node_count: self.robdd.nodes.count() as u64,
-            root: self.robdd.root(),
+            root: self.robdd.root() as u64,
         }
     }
 
@@ -74,7 +74,7 @@ impl Analysis {
             event_count: self.tree.event_count,
             table: self.cuts.nodes.table(),
             node_count: self.cuts.nodes.count() as u64,
-            root: self.cuts.root,
+            root: self.cuts.root as u64,
         }
     }
 }

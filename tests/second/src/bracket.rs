@@ -58,7 +58,7 @@ pub fn exact_chance(diagram: &Lent, chances: &[u32]) -> Big {
         };
         sums[node as usize] = part(diagram.failed(node), a).plus(&part(diagram.sound(node), D - a));
     }
-    sums[diagram.root as usize].times_power(D, event_of(diagram.root))
+    sums[diagram.root as usize].times_power(D, event_of(diagram.root_node()))
 }
 
 /// Whether the two numbers enclose S and each lies less than L billionths from it; with L = 0 both

@@ -39,13 +39,14 @@ pub fn compare_input(library: &dyn Library, seed: u64, tally: &mut Tally) {
             let shape = match random.below(60) {
                 0 => longest_shape(),
                 1 | 2 => large_shape(random),
+                3 => return compare_tree(library, &generator::narrow_tree(random), random, tally),
                 _ => middle_shape(random),
             };
             compare_tree(library, &generator::tree(random, shape), random, tally);
         }
         sort => {
             let sort = if sort % 2 == 0 { Sort::Function } else { Sort::Cuts };
-            let nodes = random.of(&[3, 12, 40]);
+            let nodes = if random.once_in(50) { 400 } else { random.of(&[3, 12, 40]) };
             let diagram = match random.once_in(3) {
                 true => diagrams::damaged(random, sort, nodes),
                 false => diagrams::good(random, sort, nodes),
@@ -68,14 +69,25 @@ pub fn compare_diagram(library: &dyn Library, diagram: &Lent, random: &mut Rando
     }
 }
 
+/// What a binding saw beside the answer.
+pub fn no_fault(library: &dyn Library, tally: &mut Tally) {
+    tally.same("the call keeps to what it was lent", None, library.fault());
+}
+
 pub fn compare_reading(library: &dyn Library, bytes: &[u8], random: &mut Random, tally: &mut Tally) {
-    tally.input = hex(bytes);
+    tally.note(|| hex(bytes));
     let got = library.read(bytes);
+    no_fault(library, tally);
     let expected = read(bytes);
     tally.due("read", expected.as_ref().map_or_else(|refusal| refusal.number, |_| 0));
     match expected {
         Ok(tree) => {
             tally.same("reading", &ReadAnswer { number: 0, place: 0, tree: tree.clone() }, &got);
+            tally.large("bytes read", bytes.len() as u64);
+            tally.large("events read", tree.event_count);
+            tally.large("gates read", tree.gate_count);
+            tally.large("inputs read", tree.inputs.len() as u64);
+            tally.large("inputs of a gate", tree.gates.iter().map(|gate| gate.n as u64).max().unwrap_or(0));
             compare_writing(library, &tree, random, tally);
         }
         Err(Refusal { number, place }) => {
@@ -87,13 +99,14 @@ pub fn compare_reading(library: &dyn Library, bytes: &[u8], random: &mut Random,
 /// Rooms one short, exact, longer and empty.
 pub fn compare_writing(library: &dyn Library, tree: &Tree, random: &mut Random, tally: &mut Tally) {
     if tally.input.is_empty() {
-        tally.input = format!("{tree:?}");
+        tally.note(|| format!("{tree:?}"));
     }
     let written = write(tree);
     let length = written.as_ref().map_or(20, Vec::len);
     for room_length in [length, length - 1, length + random.below(40), random.below(length)] {
         let mut room = Guarded::new((0..room_length).map(|_| random.byte()).collect(), 0xA5);
         let got = library.write(tree, room.lend());
+        no_fault(library, tally);
         let expected = match &written {
             Err(Refusal { number, place }) => WriteAnswer { number: *number, place: *place, used: 0 },
             Ok(_) if room_length < length => WriteAnswer { number: 9, place: 0, used: 0 },
@@ -143,6 +156,7 @@ fn lengths(library: &dyn Library, need: &Result<Analysis, Refusal>, random: &mut
         1..=6 if nodes < 60 => 0,
         7..=9 if nodes < 300 => 4,
         10..=12 => 4 * random.between(1, 100),
+        13 if random.once_in(40) => 4 * random.between(10_000, 100_000),
         _ => 4 * random.between(1_000, 2_000),
     };
     let gate_list = match random.below(20) {
@@ -161,6 +175,11 @@ fn lengths(library: &dyn Library, need: &Result<Analysis, Refusal>, random: &mut
     (Lengths { node_table, cut_table, gate_list, memo, areas_suffice }, work)
 }
 
+/// Whether both tables have room for just the nodes that are needed.
+fn exactly(done: &Analysis, lengths: Lengths) -> bool {
+    lengths.node_table == 3 * done.robdd.nodes.count() && lengths.cut_table == 3 * done.cuts.nodes.count()
+}
+
 /// What lent memory holds at entry: anything, small numbers among it that could pass for nodes.
 fn dirty(random: &mut Random, length: usize) -> Guarded<u32> {
     let small = random.below(3);
@@ -173,11 +192,28 @@ fn dirty(random: &mut Random, length: usize) -> Guarded<u32> {
 }
 
 pub fn compare_analysis(library: &dyn Library, bytes: &[u8], random: &mut Random, tally: &mut Tally) {
-    tally.input = hex(bytes);
     let need = analyse(bytes, Lengths::of_capacities(MOST_NODES, MOST_NODES));
     let (lengths, work_lengths) = lengths(library, &need, random);
+    compare_analysis_in(library, bytes, lengths, work_lengths, random, tally);
+}
+
+/// An analysis in memory of these lengths, dirty when it is lent; then its tables lent to the other calls.
+pub fn compare_analysis_in(
+    library: &dyn Library,
+    bytes: &[u8],
+    lengths: Lengths,
+    work_lengths: [usize; 4],
+    random: &mut Random,
+    tally: &mut Tally,
+) {
     let expected = analyse(bytes, lengths);
     tally.due("analyse", expected.as_ref().map_or_else(|refusal| refusal.number, |_| 0));
+    if let Ok(done) = &expected {
+        tally.meet("tables exactly full", exactly(done, lengths));
+        tally.meet("analyses without a memo", lengths.memo == 0);
+        tally.meet("with one quadruple", lengths.memo == 4);
+        tally.meet("with 10,000 quadruples", lengths.memo >= 40_000);
+    }
     let mut nodes = dirty(random, lengths.node_table);
     let mut cuts = dirty(random, lengths.cut_table);
     let mut gates = dirty(random, lengths.gate_list);
@@ -190,8 +226,9 @@ pub fn compare_analysis(library: &dyn Library, bytes: &[u8], random: &mut Random
         memo: memo.lend(),
         work: work.each_mut().map(Guarded::lend),
     };
-    tally.input += &format!(" lengths {lengths:?} work areas {work_lengths:?}");
+    tally.note(|| format!("{} lengths {lengths:?} work areas {work_lengths:?}", hex(bytes)));
     let got = library.analyse(bytes, areas);
+    no_fault(library, tally);
     let all = [&nodes, &cuts, &gates, &memo, &work[0], &work[1], &work[2], &work[3]];
     tally.holds("guards of an analysis", all.iter().all(|area| area.guards_stand()));
     match expected {
@@ -211,6 +248,12 @@ pub fn compare_analysis(library: &dyn Library, bytes: &[u8], random: &mut Random
                 return;
             }
             tally.holds("memo and work areas end zero", all[3..].iter().all(|area| area.all(0)));
+            tally.large("events analysed", done.tree.event_count);
+            tally.large("gates analysed", done.tree.gate_count);
+            tally.large("inputs analysed", done.tree.inputs.len() as u64);
+            tally.large("nodes", counts.2);
+            tally.large("cut nodes", counts.3);
+            tally.large("memo", lengths.memo as u64);
             compare_tables(&done, &got, &nodes, &cuts, &gates, tally);
             let tables = (nodes.now(), cuts.now());
             compare_uses(library, &done, &got, tables, random, tally);
@@ -251,15 +294,21 @@ fn compare_uses(
     tally: &mut Tally,
 ) {
     let event_count = done.tree.event_count;
-    let lent = |sort, table: &[u32], node_count, root| {
-        let diagram = Lent { sort, event_count, table: table.to_vec(), node_count, root };
-        diagram.is_diagram().then_some(diagram)
+    let lent = |sort, table: &[u32], node_count, root: u32| Lent {
+        sort,
+        event_count,
+        table: table.to_vec(),
+        node_count,
+        root: root as u64,
     };
     let function = lent(Sort::Function, nodes, got.nodes, got.root);
     let family = lent(Sort::Cuts, cuts, got.cut_nodes, got.cut_root);
-    tally.holds("built diagrams are diagrams", function.is_some() && family.is_some());
-    if let (Some(function), Some(family)) = (function, family) {
-        compare_list(library, &family, random, tally);
-        compare_bracket(library, &function, Some(&done.tree.chances), random, tally);
+    tally.holds("built diagrams are diagrams", function.is_diagram() && family.is_diagram());
+    compare_list(library, &family, random, tally);
+    compare_bracket(library, &function, Some(&done.tree.chances), random, tally);
+    if random.once_in(8) {
+        // Each taken for the other kind: answered for what it denotes, if it keeps that kind's rules.
+        compare_list(library, &Lent { sort: Sort::Cuts, ..function }, random, tally);
+        compare_bracket(library, &Lent { sort: Sort::Function, ..family }, Some(&done.tree.chances), random, tally);
     }
 }

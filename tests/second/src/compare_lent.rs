@@ -1,6 +1,7 @@
 //! Listing and bracket of any lent diagram, against the second program.
 
 use crate::bracket::bracket;
+use crate::compare::no_fault;
 use crate::generator;
 use crate::lent::Lent;
 use crate::library::*;
@@ -32,7 +33,7 @@ pub fn compare_list(library: &dyn Library, diagram: &Lent, random: &mut Random, 
 }
 
 /// Answers the last set if the call is done and something follows.
-fn one_listing(
+pub fn one_listing(
     library: &dyn Library,
     diagram: &Lent,
     after: Option<Set>,
@@ -41,13 +42,14 @@ fn one_listing(
     tally: &mut Tally,
     from: &str,
 ) -> Option<Set> {
-    tally.input = match from {
+    tally.note(|| match from {
         "" => format!("{diagram:?} after {after:?} room {room_length}"),
         bytes => format!("{bytes} after {after:?} room {room_length}"),
-    };
+    });
     let expected = list(diagram, after, room_length);
     let mut room = Guarded::new((0..room_length).map(|_| random.byte()).collect(), 0x5A);
     let got = library.list(diagram, after, room.lend());
+    no_fault(library, tally);
     let used = expected.bytes.len();
     let answer = ListAnswer {
         number: expected.number,
@@ -57,6 +59,14 @@ fn one_listing(
         finished: expected.finished,
     };
     tally.due("list", answer.number);
+    if answer.number == 0 {
+        tally.meet("listings from the beginning", after.is_none());
+        tally.meet("after a set", after.is_some());
+        tally.meet("of no cut", answer.written == 0);
+        tally.meet("unfinished", !answer.finished);
+        tally.meet("into a room that is just full", used == room_length && used > 0);
+        tally.meet("of 20 cuts or more", answer.written >= 20);
+    }
     tally.same("listing", answer, got);
     tally.holds("guards of a listing", room.guards_stand());
     let whole = [&expected.bytes[..], &room.before()[used..]].concat();
@@ -98,14 +108,15 @@ pub fn compare_bracket(
             lengths[place] = smallest[place] - 1;
             suffice = false;
         }
-        tally.input = match before.as_str() {
+        tally.note(|| match before.as_str() {
             "" => format!("{diagram:?} chances {chances:?} areas {lengths:?}"),
             bytes => format!("{bytes} chances {chances:?} areas {lengths:?}"),
-        };
+        });
         let mut areas =
             lengths.map(|length| Guarded::new((0..length).map(|_| random.next() as u32).collect(), 0xDEAD_BEEF));
         let expected = bracket(diagram, &chances, suffice);
         let got = library.bracket(diagram, &chances, areas.each_mut().map(Guarded::lend));
+        no_fault(library, tally);
         let answer = BracketAnswer { number: expected.number, low: expected.low, high: expected.high };
         tally.due("bracket", answer.number);
         tally.same("bracket", answer, got);

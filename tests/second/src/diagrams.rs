@@ -20,9 +20,9 @@ pub fn good(random: &mut Random, sort: Sort, most_nodes: usize) -> Lent {
     // What lies behind the stated count isn't judged.
     table.extend((0..behind).map(|_| random.next() as u32));
     let root = match random.below(8) {
-        0 => random.below(2) as u32,
-        1 => random.below(node_count + 2) as u32,
-        _ => node_count as u32 + 1,
+        0 => random.below(2) as u64,
+        1 => random.below(node_count + 2) as u64,
+        _ => node_count as u64 + 1,
     };
     Lent { sort, event_count: event_count as u64, table, node_count: node_count as u64, root }
 }
@@ -56,13 +56,14 @@ pub fn damaged(random: &mut Random, sort: Sort, most_nodes: usize) -> Lent {
     let nodes = lent.node_count as usize;
     let some_node = if nodes > 0 { 3 * random.below(nodes) } else { 0 };
     match random.below(if nodes > 0 { 14 } else { 6 }) {
-        0 => lent.event_count = random.of(&[0, 257, 300, u32::MAX as u64, u64::MAX]),
+        0 => lent.event_count = random.of(&[0, 257, 300, u32::MAX as u64, (1 << 32) + lent.event_count, u64::MAX]),
         1 => lent.table.push(0),
         2 => lent.table.extend([0, 0]),
         3 => lent.node_count = lent.table.len() as u64 / 3 + random.between(1, 3) as u64,
-        4 => lent.node_count = random.of(&[u64::MAX, u64::MAX / 3 + 2, 1 << 32, u32::MAX as u64]),
-        5 => lent.root = lent.node_count as u32 + 2 + random.below(3) as u32,
-        6 => lent.root = u32::MAX,
+        4 => lent.node_count = random.of(&[u64::MAX, u64::MAX / 3 + 2, (1 << 32) + lent.node_count, u32::MAX as u64]),
+        5 => lent.root = lent.node_count + 2 + random.below(3) as u64,
+        // Numbers that a narrower type would take for a node.
+        6 => lent.root = random.of(&[u32::MAX as u64, 1 << 32, (1 << 32) + lent.root, u64::MAX]),
         7 => lent.table[some_node] = lent.event_count as u32 + random.below(2) as u32,
         8 => lent.table[some_node] = u32::MAX,
         9 => {

@@ -65,6 +65,30 @@ pub fn longest_shape() -> Shape {
     }
 }
 
+/// Every count at its maximum, and yet a diagram of a few hundred nodes: each gate takes the one before it, some of its inputs
+/// often, and the events come in from the last to the first.
+pub fn narrow_tree(random: &mut Random) -> Tree {
+    let mut tree = Tree::of_chances(&chances(random, MOST_EVENTS));
+    let widest = random.between(1, MOST_GATES - 1);
+    let shared = MOST_INPUTS - MOST_INPUTS_OF_A_GATE;
+    let others = MOST_GATES - 1;
+    for gate in 0..MOST_GATES {
+        let width = match gate == widest {
+            true => MOST_INPUTS_OF_A_GATE,
+            false => shared / others + usize::from(gate - usize::from(gate > widest) < shared % others),
+        };
+        let event = Input::Event((MOST_EVENTS - 1).saturating_sub(gate) as u32);
+        let below = if gate == 0 { event } else { Input::Gate(gate as u32 - 1) };
+        let mut inputs: Vec<Input> = (2..width).map(|_| random.of(&[event, below])).collect();
+        inputs.insert(random.below(inputs.len() + 1), event);
+        inputs.insert(random.below(inputs.len() + 1), below);
+        let kind = random.of(&[AND, OR, AT_LEAST]);
+        let k = if kind == AT_LEAST { random.between(1, width) as u32 } else { 0 };
+        tree.add_gate(kind, k, &inputs);
+    }
+    tree
+}
+
 pub fn chance(random: &mut Random) -> u32 {
     match random.below(8) {
         0 => random.of(&[0, 1, 2, D - 2, D - 1, D, D / 2, D / 3]),

@@ -17,7 +17,7 @@ pub struct Lent {
     pub event_count: u64,
     pub table: Vec<u32>,
     pub node_count: u64,
-    pub root: u32,
+    pub root: u64,
 }
 
 impl Lent {
@@ -33,6 +33,11 @@ impl Lent {
         self.table[3 * (node as usize - 2) + 2]
     }
 
+    /// The root as a node's number. Only for diagrams.
+    pub fn root_node(&self) -> u32 {
+        self.root as u32
+    }
+
     /// Whether it is a diagram; 12 otherwise.
     pub fn is_diagram(&self) -> bool {
         (1..=256).contains(&self.event_count)
@@ -40,7 +45,7 @@ impl Lent {
             && self.table.len() <= MOST_NUMBERS
             && self.node_count <= self.table.len() as u64 / 3
             && (0..self.node_count).all(|index| self.is_node(index as u32 + 2))
-            && (self.root as u64) < self.node_count + 2
+            && self.root < self.node_count + 2
     }
 
     fn is_node(&self, node: u32) -> bool {

@@ -66,6 +66,11 @@ pub trait Library {
     /// `None` is "from the beginning".
     fn list(&self, diagram: &Lent, after: Option<Set>, room: &mut [u8]) -> ListAnswer;
     fn bracket(&self, diagram: &Lent, chances: &[u32], work: [&mut [u32]; 2]) -> BracketAnswer;
+
+    /// What a binding itself saw go wrong in the last call: a write outside of what was lent to be written, or no return.
+    fn fault(&self) -> Option<&'static str> {
+        None
+    }
 }
 
 /// Memory with guards on both sides that remembers what it held when it was lent.

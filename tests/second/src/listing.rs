@@ -64,7 +64,7 @@ struct Open {
 
 impl<'a> Walk<'a> {
     pub fn new(diagram: &'a Lent, after: Option<Set>) -> Walk<'a> {
-        let whole = Open { node: diagram.root, members: Set::EMPTY, decided: 0, tied: after.is_some() };
+        let whole = Open { node: diagram.root_node(), members: Set::EMPTY, decided: 0, tied: after.is_some() };
         Walk { diagram, start: after.unwrap_or(Set::EMPTY), open: vec![whole] }
     }
 }

@@ -10,15 +10,37 @@ pub struct Tally {
     pub first_difference: Option<String>,
     /// How often each call was due to answer each number: what the inputs reach.
     pub due: BTreeMap<(&'static str, u32), u64>,
-    /// The input at hand, for the report.
+    /// How often the inputs met something worth meeting.
+    pub met: BTreeMap<&'static str, u64>,
+    /// The largest of each kind of thing that the inputs brought.
+    pub largest: BTreeMap<&'static str, u64>,
+    /// The input at hand, for the report: its name or its seed, and what it is where details are wanted.
+    pub name: Option<&'static str>,
     pub seed: u64,
     pub input: String,
+    pub detailed: bool,
 }
 
 impl Tally {
     pub fn begin(&mut self, seed: u64) {
         self.seed = seed;
         self.input.clear();
+    }
+
+    /// Says what the input at hand is, should a difference have to be reported. Long texts are made only for that.
+    pub fn note(&mut self, text: impl FnOnce() -> String) {
+        if self.detailed {
+            self.input = text();
+        }
+    }
+
+    pub fn meet(&mut self, what: &'static str, met: bool) {
+        *self.met.entry(what).or_default() += u64::from(met);
+    }
+
+    pub fn large(&mut self, what: &'static str, size: u64) {
+        let largest = self.largest.entry(what).or_default();
+        *largest = size.max(*largest);
     }
 
     pub fn due(&mut self, call: &'static str, number: u32) {
@@ -34,8 +56,9 @@ impl Tally {
         self.failed += 1;
         if self.first_difference.is_none() {
             let Tally { seed, input, .. } = self;
+            let case = self.name.map_or(format!("seed {seed}"), str::to_string);
             self.first_difference =
-                Some(format!("seed {seed}: {what}\n  expected {expected:?}\n  got      {got:?}\n  input    {input}"));
+                Some(format!("{case}: {what}\n  expected {expected:?}\n  got      {got:?}\n  input    {input}"));
         }
     }
 
@@ -49,7 +72,11 @@ impl Tally {
         for ((call, number), times) in &self.due {
             *lines.entry(call).or_insert(format!("{call}:")) += &format!(" {number}:{times}");
         }
-        lines.into_values().collect::<Vec<_>>().join("\n")
+        let all = |named: &BTreeMap<&str, u64>| {
+            named.iter().map(|(what, n)| format!(" {what} {n}")).collect::<Vec<_>>().join(",")
+        };
+        let more = [format!("met:{}", all(&self.met)), format!("largest:{}", all(&self.largest))];
+        lines.into_values().chain(more).collect::<Vec<_>>().join("\n")
     }
 
     pub fn line(&self) -> String {

@@ -89,7 +89,7 @@ fn compare(tree: &Tree, seed: u64) {
 }
 
 fn value(diagram: &Lent, failed: Set) -> bool {
-    let mut node = diagram.root;
+    let mut node = diagram.root_node();
     while node >= 2 {
         node = if failed.holds(diagram.event(node)) { diagram.failed(node) } else { diagram.sound(node) };
     }
@@ -119,7 +119,7 @@ fn lent_cut_diagrams() {
         if diagram.event_count > 40 {
             continue;
         }
-        let sets = in_order(&family(&diagram, diagram.root));
+        let sets = in_order(&family(&diagram, diagram.root_node()));
         let whole: usize = sets.iter().map(|set| set.cut_bytes().len()).sum();
         for _ in 0..4 {
             let start = start(random, diagram.event_count as usize, &sets);

@@ -138,7 +138,7 @@ fn node_vector() {
 fn families_of_document_002() {
     let lent = |table: Vec<u32>| {
         let count = table.len() as u64 / 3;
-        Lent { sort: Sort::Cuts, event_count: 3, table, node_count: count, root: count as u32 + 1 }
+        Lent { sort: Sort::Cuts, event_count: 3, table, node_count: count, root: count + 1 }
     };
     assert_eq!(list(&lent(vec![1, 0, 1]), None, 100).number, 12);
     assert_eq!(list(&lent(vec![2, 1, 0, 0, 1, 2]), None, 100).bytes, bytes_of("21 00 22 21 02 22"));

@@ -5,11 +5,6 @@ use Rattle.bracket.proofs.Pass.{low-read, high-read}
 use borrow.Author.Needs.{needs}
 use Rattle.bracket.proofs.both_ends.Statement.{statement}
 use Rattle.bracket.proofs.both_ends.Tie as tie
-use Rattle.bracket.proofs.both_ends.Reads as reads
-use Rattle.bracket.proofs.both_ends.Lts as lts
-use Rattle.bracket.proofs.fill_all.Reads as fill-all-reads
-use Rattle.bracket.proofs.number_in.Reads as number-in-reads
-use Rattle.tables.proofs.clear.Reads as clear-reads
 
 fill-all-requires : tie.Need-fill-all-requires
 fill-all-requires c κs = search needs

@@ -9,12 +9,6 @@ use Rattle.bracket.proofs.Answer.{refused-now, can-fill}
 use borrow.Author.Needs.{needs}
 use Rattle.bracket.proofs.bracket.Statement.{statement}
 use Rattle.bracket.proofs.bracket.Tie as tie
-use Rattle.bracket.proofs.bracket.Reads as reads
-use Rattle.bracket.proofs.bracket.Lts as lts
-use Rattle.bracket.proofs.both_ends.Reads as both-ends-reads
-use Rattle.bracket.proofs.chances_ok.Reads as chances-ok-reads
-use Rattle.bracket.proofs.refused.Reads as refused-reads
-use Rattle.tables.proofs.is_diagram.Reads as is-diagram-reads
 
 -- what the tests showed on the way
 valid : (c : tie.Else1) → Lent false (c .before .before .before .before .before .before .args .n) (c .before .before .before .before .before .before .args .nodes .now) (c .before .before .before .before .before .before .args .count) (c .before .before .before .before .before .before .args .root)

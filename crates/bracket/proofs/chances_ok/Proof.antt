@@ -6,8 +6,6 @@ use Rattle.paper.specs.Limits.{billion}
 use Rattle.bracket.specs.Bracketed.{chanceIn, Chances}
 use Rattle.bracket.proofs.chances_ok.Statement.{statement}
 use Rattle.bracket.proofs.chances_ok.Tie as tie
-use Rattle.bracket.proofs.chances_ok.Reads as reads
-use Rattle.bracket.proofs.chances_ok.Lts as lts
 
 abbrev Inv-loop : tie.InvT-loop
 Inv-loop chances n e₀ e = (e ≤ n) × Chances e chances

@@ -10,13 +10,6 @@ use Rattle.bracket.specs.Pass.{numberIn, Filled, Ready}
 use Rattle.bracket.proofs.Pass.{ready, filled-start, filled-next}
 use Rattle.bracket.proofs.fill_all.Statement.{statement}
 use Rattle.bracket.proofs.fill_all.Tie as tie
-use Rattle.bracket.proofs.fill_all.Reads as reads
-use Rattle.bracket.proofs.fill_all.Lts as lts
-use Rattle.bracket.proofs.fill_node.Reads as fill-node-reads
-use Rattle.bracket.proofs.wide.Reads as wide-reads
-use Rattle.tables.proofs.event_of.Reads as event-of-reads
-use Rattle.tables.proofs.failed_of.Reads as failed-of-reads
-use Rattle.tables.proofs.sound_of.Reads as sound-of-reads
 
 abbrev Inv-loop : tie.InvT-loop
 Inv-loop nodes n count root chances lows₀ highs₀ i₀ lows highs i = (2 ≤ i) × (i ≤ count + 2) × (length lows ≡ length lows₀) × (length highs ≡ length highs₀) × (Filled 0 chances nodes lows i) × (Filled (billion - 1) chances nodes highs i)

@@ -6,10 +6,6 @@ use borrow.Author.Needs.{needs}
 use Rattle.paper.specs.Limits.{billion}
 use Rattle.bracket.proofs.fill_node.Statement.{statement}
 use Rattle.bracket.proofs.fill_node.Tie as tie
-use Rattle.bracket.proofs.fill_node.Reads as reads
-use Rattle.bracket.proofs.fill_node.Lts as lts
-use Rattle.bracket.proofs.mixed.Reads as mixed-reads
-use Rattle.bracket.proofs.number_in.Reads as number-in-reads
 
 number-in-requires : tie.Need-number-in-requires
 number-in-requires c κs = search needs

@@ -5,8 +5,6 @@ use borrow.Author.Needs.{needs}
 use Rattle.bracket.proofs.Pass.{sum-le}
 use Rattle.bracket.proofs.mixed.Statement.{statement}
 use Rattle.bracket.proofs.mixed.Tie as tie
-use Rattle.bracket.proofs.mixed.Reads as reads
-use Rattle.bracket.proofs.mixed.Lts as lts
 
 sub-rest : tie.Need-sub-rest
 sub-rest c = search needs

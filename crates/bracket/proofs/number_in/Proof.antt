@@ -5,9 +5,6 @@ use borrow.Author.Needs.{needs}
 use Rattle.bracket.proofs.Pass.{number-0, number-1, number-slot}
 use Rattle.bracket.proofs.number_in.Statement.{statement}
 use Rattle.bracket.proofs.number_in.Tie as tie
-use Rattle.bracket.proofs.number_in.Reads as reads
-use Rattle.bracket.proofs.number_in.Lts as lts
-use Rattle.bracket.proofs.wide.Reads as wide-reads
 
 returns : tie.Need-returns
 returns c = number-0 (c .before .before .args .work .now) (c .before .before .args .i) (c .if1 .taken)

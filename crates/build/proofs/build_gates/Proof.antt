@@ -7,9 +7,6 @@ use Rattle.build.proofs.Gates.{gate-fits}
 use Rattle.build.proofs.Sofar.{Going, sofar-within, going-start, going-next, going-short, going-end}
 use Rattle.build.proofs.build_gates.Statement.{statement}
 use Rattle.build.proofs.build_gates.Tie as tie
-use Rattle.build.proofs.build_gates.Reads as reads
-use Rattle.build.proofs.build_gates.Lts as lts
-use Rattle.build.proofs.next_gate.Reads as next-gate-reads
 
 abbrev Inv-loop : tie.InvT-loop
 Inv-loop nodes₀ heads₀ next₀ memo₀ gates₀ kinds leasts sizes inputs g₀ at₀ count₀ root₀ nodes heads next memo gates g at count root =

@@ -5,10 +5,6 @@ use Rattle.tables.specs.Table.{den}
 use Rattle.build.proofs.ByKind.{gains-and, gains-or, gains-least}
 use Rattle.build.proofs.combined.Statement.{statement}
 use Rattle.build.proofs.combined.Tie as tie
-use Rattle.build.proofs.combined.Reads as reads
-use Rattle.build.proofs.combined.Lts as lts
-use Rattle.build.proofs.joined.Reads as joined-reads
-use Rattle.build.proofs.least.at_least.Reads as at-least-reads
 
 joined-requires : tie.Need-joined-requires
 joined-requires c κs = ((c .before .before .before .before .before .before .before .before .before .before .pre .0), ((c .before .before .before .before .before .before .before .before .before .before .pre .1 .0), ((c .before .before .before .before .before .before .before .before .before .before .pre .1 .1 .0), omega arith)))

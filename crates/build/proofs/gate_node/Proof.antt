@@ -8,10 +8,6 @@ use Rattle.paper.specs.Flat.{inputOf}
 use Rattle.build.proofs.ByKind.{gate-held, row-fits, row-long, row-some, row-within, gate-gains, gate-short}
 use Rattle.build.proofs.gate_node.Statement.{statement}
 use Rattle.build.proofs.gate_node.Tie as tie
-use Rattle.build.proofs.gate_node.Reads as reads
-use Rattle.build.proofs.gate_node.Lts as lts
-use Rattle.build.proofs.combined.Reads as combined-reads
-use Rattle.build.proofs.inputs.input_nodes.Reads as input-nodes-reads
 
 input-nodes-requires : tie.Need-input-nodes-requires
 input-nodes-requires c κs = ((c .before .before .before .before .before .before .before .before .before .before .pre .0) .store, ((c .before .before .before .before .before .before .before .before .before .before .pre .1 .0), ((c .before .before .before .before .before .before .before .before .before .before .pre .1 .1 .0), length-replicate {A = ℕ} 64 0)))

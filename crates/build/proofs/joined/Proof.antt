@@ -8,9 +8,6 @@ use Rattle.tables.specs.Table.{den}
 use Rattle.build.proofs.Folding.{Joining, joining-start, joining-ready, joining-next, joining-short, joining-end}
 use Rattle.build.proofs.joined.Statement.{statement}
 use Rattle.build.proofs.joined.Tie as tie
-use Rattle.build.proofs.joined.Reads as reads
-use Rattle.build.proofs.joined.Lts as lts
-use Rattle.joins.proofs.join.Reads as join-reads
 
 abbrev Inv-loop : tie.InvT-loop
 Inv-loop nodes₀ heads₀ next₀ memo₀ xs count z r₀ used₀ i₀ nodes heads next memo r used i =

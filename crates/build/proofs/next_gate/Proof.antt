@@ -5,9 +5,6 @@ use Rattle.tables.specs.Table.{den}
 use Rattle.build.proofs.Gates.{gate-fits, gate-own, gate-least, gate-is}
 use Rattle.build.proofs.next_gate.Statement.{statement}
 use Rattle.build.proofs.next_gate.Tie as tie
-use Rattle.build.proofs.next_gate.Reads as reads
-use Rattle.build.proofs.next_gate.Lts as lts
-use Rattle.build.proofs.gate_node.Reads as gate-node-reads
 
 shared-slice-read-end : tie.Need-shared-slice-read-end
 shared-slice-read-end c = omega (arith, (c .before .before .before .before .before .before .before .before .before .before .pre .1 .1 .1 .1 .0))

@@ -1,9 +1,8 @@
 -- The invariant: the reached numbers below i have their cuts. Assumes nothing.
 use borrow.Author.Needs.{needs}
-use mathlib.Core.Path.{_≡_, refl, _∙_}
+use mathlib.Core.Path.{refl, _∙_}
 use Prim.Native.Nat.{_+_, _-_, _≤_}
 use native.Mathlib.Omega.{arith}
-use lib.ListN.{length}
 use Rattle.cuts.specs.Cutting.{Halfway}
 use Rattle.cuts.proofs.Up.{Lengths, up-end}
 use Rattle.cuts.proofs.cut_all.Statement.{statement}

@@ -1,6 +1,5 @@
 -- The three ways in which two top events can stand are three laws. Assumes nothing.
 use borrow.Author.Needs.{needs}
-use native.Mathlib.Omega.{arith}
 use Rattle.cuts.proofs.Apart.{part-earlier, part-later, part-equal, part-past}
 use Rattle.cuts.proofs.take_apart.Statement.{statement}
 use Rattle.cuts.proofs.take_apart.Tie as tie

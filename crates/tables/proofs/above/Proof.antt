@@ -5,9 +5,6 @@ use Rattle.tables.proofs.Flags.{says-ltb}
 use borrow.Author.Needs.{needs}
 use Rattle.tables.proofs.above.Statement.{statement}
 use Rattle.tables.proofs.above.Tie as tie
-use Rattle.tables.proofs.above.Reads as reads
-use Rattle.tables.proofs.above.Lts as lts
-use Rattle.tables.proofs.event_of.Reads as event-of-reads
 
 returns : tie.Need-returns
 returns c = search needs

@@ -8,8 +8,6 @@ use lib.ListN.{length-append, length-replicate, length-drop, drop-of-length-le}
 use borrow.Author.Fill.{fill-none, fill-more}
 use Rattle.tables.proofs.clear.Statement.{statement}
 use Rattle.tables.proofs.clear.Tie as tie
-use Rattle.tables.proofs.clear.Reads as reads
-use Rattle.tables.proofs.clear.Lts as lts
 
 abbrev Inv-loop : tie.InvT-loop
 Inv-loop work₀ i₀ work i = (i ≤ length work₀) × (work ≡ replicate i 0 ++ drop i work₀)

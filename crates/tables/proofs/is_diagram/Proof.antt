@@ -4,9 +4,6 @@ use Rattle.tables.proofs.Flags.{says-both}
 use borrow.Author.Needs.{needs}
 use Rattle.tables.proofs.is_diagram.Statement.{statement}
 use Rattle.tables.proofs.is_diagram.Tie as tie
-use Rattle.tables.proofs.is_diagram.Reads as reads
-use Rattle.tables.proofs.is_diagram.Lts as lts
-use Rattle.tables.proofs.nodes_ok.Reads as nodes-ok-reads
 
 returns : tie.Need-returns
 returns c = search needs

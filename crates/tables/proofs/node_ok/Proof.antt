@@ -5,12 +5,6 @@ use Rattle.tables.proofs.Check.{no-failed, no-sound, last-cut, last-oth
 use borrow.Author.Needs.{needs}
 use Rattle.tables.proofs.node_ok.Statement.{statement}
 use Rattle.tables.proofs.node_ok.Tie as tie
-use Rattle.tables.proofs.node_ok.Reads as reads
-use Rattle.tables.proofs.node_ok.Lts as lts
-use Rattle.tables.proofs.above.Reads as above-reads
-use Rattle.tables.proofs.event_of.Reads as event-of-reads
-use Rattle.tables.proofs.failed_of.Reads as failed-of-reads
-use Rattle.tables.proofs.sound_of.Reads as sound-of-reads
 
 event-of-requires : tie.Need-event-of-requires
 event-of-requires c κs = search needs

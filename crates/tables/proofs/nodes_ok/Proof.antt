@@ -7,9 +7,6 @@ use Rattle.tables.specs.Lent.{Node, Kind}
 use Rattle.tables.proofs.Flags.{says-true, says-false}
 use Rattle.tables.proofs.nodes_ok.Statement.{statement}
 use Rattle.tables.proofs.nodes_ok.Tie as tie
-use Rattle.tables.proofs.nodes_ok.Reads as reads
-use Rattle.tables.proofs.nodes_ok.Lts as lts
-use Rattle.tables.proofs.node_ok.Reads as node-ok-reads
 
 abbrev Inv-loop : tie.InvT-loop
 Inv-loop nodes n count cut i₀ i = (2 ≤ i) × (i ≤ count + 2) × ((j : ℕ) → j < i → 2 ≤ j → Node n nodes j × Kind cut nodes j)

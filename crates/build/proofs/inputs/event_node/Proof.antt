@@ -2,9 +2,6 @@ use borrow.Author.Needs.{needs}
 use Rattle.build.proofs.Rows.{event-made}
 use Rattle.build.proofs.inputs.event_node.Statement.{statement}
 use Rattle.build.proofs.inputs.event_node.Tie as tie
-use Rattle.build.proofs.inputs.event_node.Reads as reads
-use Rattle.build.proofs.inputs.event_node.Lts as lts
-use Rattle.store.proofs.find_or_add.Reads as find-or-add-reads
 
 find-or-add-requires : tie.Need-find-or-add-requires
 find-or-add-requires c κs = search needs

@@ -2,9 +2,6 @@ use borrow.Author.Needs.{needs}
 use Rattle.build.proofs.Rows.{names-event, names-gate}
 use Rattle.build.proofs.inputs.input_node.Statement.{statement}
 use Rattle.build.proofs.inputs.input_node.Tie as tie
-use Rattle.build.proofs.inputs.input_node.Reads as reads
-use Rattle.build.proofs.inputs.input_node.Lts as lts
-use Rattle.build.proofs.inputs.event_node.Reads as event-node-reads
 
 event-node-requires : tie.Need-event-node-requires
 event-node-requires c κs = search needs

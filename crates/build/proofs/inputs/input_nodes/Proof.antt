@@ -6,9 +6,6 @@ use lib.ListN.{length}
 use Rattle.build.proofs.Rows.{Lining, lining-start, lining-within, lining-next, lining-short, lining-end}
 use Rattle.build.proofs.inputs.input_nodes.Statement.{statement}
 use Rattle.build.proofs.inputs.input_nodes.Tie as tie
-use Rattle.build.proofs.inputs.input_nodes.Reads as reads
-use Rattle.build.proofs.inputs.input_nodes.Lts as lts
-use Rattle.build.proofs.inputs.input_node.Reads as input-node-reads
 
 abbrev Inv-loop : tie.InvT-loop
 Inv-loop nodes₀ heads₀ next₀ gates inputs row₀ count used₀ i₀ nodes heads next row used i = (length heads ≡ length heads₀) × (length next ≡ length next₀) × Lining gates inputs nodes₀ count i nodes heads next row used

@@ -5,9 +5,6 @@ use lib.ListN.{length}
 use Rattle.build.proofs.Taking.{Stage, stage-first, stage-within, stage-ready, stage-next, stage-short, stage-end}
 use Rattle.build.proofs.least.at_least.Statement.{statement}
 use Rattle.build.proofs.least.at_least.Tie as tie
-use Rattle.build.proofs.least.at_least.Reads as reads
-use Rattle.build.proofs.least.at_least.Lts as lts
-use Rattle.build.proofs.least.take_input.Reads as take-input-reads
 
 abbrev Inv-loop : tie.InvT-loop
 Inv-loop nodes₀ heads₀ next₀ memo₀ xs count k row₀ used₀ i₀ nodes heads next memo row used i = (length heads ≡ length heads₀) × (length next ≡ length next₀) × (length memo ≡ length memo₀) × Stage k xs nodes₀ count i nodes heads next memo row used

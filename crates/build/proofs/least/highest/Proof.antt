@@ -3,8 +3,6 @@ use mathlib.Core.Logic.{inl, inr}
 use native.Mathlib.Omega.{arith}
 use Rattle.build.proofs.least.highest.Statement.{statement}
 use Rattle.build.proofs.least.highest.Tie as tie
-use Rattle.build.proofs.least.highest.Reads as reads
-use Rattle.build.proofs.least.highest.Lts as lts
 
 sub-if1 : tie.Need-sub-if1
 sub-if1 c = search needs

@@ -3,8 +3,6 @@ use mathlib.Core.Logic.{inl, inr}
 use native.Mathlib.Omega.{arith}
 use Rattle.build.proofs.least.lowest.Statement.{statement}
 use Rattle.build.proofs.least.lowest.Tie as tie
-use Rattle.build.proofs.least.lowest.Reads as reads
-use Rattle.build.proofs.least.lowest.Lts as lts
 
 sub-result : tie.Need-sub-result
 sub-result c = search needs

@@ -2,9 +2,6 @@ use borrow.Author.Needs.{needs}
 use Rattle.build.proofs.Taking.{first-ready, second-ready, pair-first, pair-second}
 use Rattle.build.proofs.least.pair.Statement.{statement}
 use Rattle.build.proofs.least.pair.Tie as tie
-use Rattle.build.proofs.least.pair.Reads as reads
-use Rattle.build.proofs.least.pair.Lts as lts
-use Rattle.joins.proofs.join.Reads as join-reads
 
 join-requires : tie.Need-join-requires
 join-requires c κs = first-ready (c .before .before .before .before .before .before .before .before .pre .0) (c .before .before .before .before .before .before .before .before .pre .1 .0) (c .before .before .before .before .before .before .before .before .pre .1 .1 .0) (c .before .before .before .before .before .before .before .before .pre .1 .1 .1)

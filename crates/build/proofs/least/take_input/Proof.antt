@@ -5,11 +5,6 @@ use lib.ListN.{length}
 use Rattle.build.proofs.Taking.{Pairing, pairing-start, x-here, less-in, more-in, pairing-next, pairing-short, pairing-end}
 use Rattle.build.proofs.least.take_input.Statement.{statement}
 use Rattle.build.proofs.least.take_input.Tie as tie
-use Rattle.build.proofs.least.take_input.Reads as reads
-use Rattle.build.proofs.least.take_input.Lts as lts
-use Rattle.build.proofs.least.highest.Reads as highest-reads
-use Rattle.build.proofs.least.lowest.Reads as lowest-reads
-use Rattle.build.proofs.least.pair.Reads as pair-reads
 
 abbrev Inv-loop : tie.InvT-loop
 Inv-loop nodes₀ heads₀ next₀ memo₀ row₀ xs count k i low j₀ used₀ nodes heads next memo row j used =

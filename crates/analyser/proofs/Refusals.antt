@@ -1,0 +1,92 @@
+-- Bytes that are refused get a number from 1 to 8.
+-- Assumes nothing.
+use mathlib.Core.Path.{_≡_, refl, sym, subst}
+use mathlib.Core.List.{List}
+use Prim.Native.Nat.{ℕ, zero, suc, _+_}
+use native.Mathlib.Omega.{arith}
+use lib.Dec.{ltb, leb, eqb}
+use lib.ListN.{length, drop}
+use Rattle.paper.specs.Limits.{limits, billion}
+use Rattle.records.specs.Answers.{verdict}
+use Rattle.records.specs.Format.{recordOf}
+use Rattle.records.specs.Rules.{wrongK, admitOf, stepOf}
+use Rattle.records.specs.Judge.{Book, start, counts, addEvent, addGate, addInput, Outcome, accept, refuse, unusedBy, closeOf, run, outcome}
+use Rattle.records.specs.declared.Answer.{Answer}
+use Rattle.records.specs.declared.Answer.the-variants.{Unused}
+use Rattle.records.specs.declared.format.Record.{Record}
+use Rattle.records.specs.declared.format.Record.the-variants.{Missing, Unknown, Short, Event, Gate, EventInput, GateInput, End}
+use Rattle.records.specs.declared.judge.State.{State}
+use Rattle.records.specs.declared.judge.Step.{Step}
+use Rattle.records.specs.declared.judge.Step.the-variants.{AddEvent, AddGate, AddInput, Close, Refused}
+use Rattle.records.specs.declared.uses.Found.{Found}
+use Rattle.records.specs.declared.uses.Found.the-variants.{At, Nothing}
+use Rattle.records.proofs.Cases.{if-elim}
+use Rattle.analyser.specs.Reasons.{OneToEight}
+use Rattle.records.proofs.Runs.{run-event, run-gate, run-input, run-close, run-refused}
+
+-- what a step, or a reading, says if it refuses
+abbrev InRange : Step → Type 0
+InRange (AddEvent c next) = Unit {0}
+InRange (AddGate kind k n next) = Unit {0}
+InRange (AddInput i next) = Unit {0}
+InRange Close = Unit {0}
+InRange (Refused a) = OneToEight (verdict a .number)
+
+abbrev Ranged : Outcome → Type 0
+Ranged (accept b) = Unit {0}
+Ranged (refuse a) = OneToEight (verdict a .number)
+
+step-range : (len : ℕ) (s : State) (r : Record) → InRange (admitOf limits len s r)
+step-range len s Missing = (omega arith, omega arith)
+step-range len s Unknown = (omega arith, omega arith)
+step-range len s Short = (omega arith, omega arith)
+step-range len s (Event c) =
+    if-elim InRange (ltb 0 (s .gates)) (λ _. (omega arith, omega arith))
+    (λ _. if-elim InRange (leb (limits .events) (s .events)) (λ _. (omega arith, omega arith))
+    (λ _. if-elim InRange (ltb billion c) (λ _. (omega arith, omega arith)) (λ _. tt)))
+step-range len s (Gate kind k n) =
+    if-elim InRange (ltb 0 (s .left)) (λ _. (omega arith, omega arith))
+    (λ _. if-elim InRange (leb (limits .gates) (s .gates)) (λ _. (omega arith, omega arith))
+    (λ _. if-elim InRange (eqb n 0) (λ _. (omega arith, omega arith))
+    (λ _. if-elim InRange (ltb (limits .inputs) n) (λ _. (omega arith, omega arith))
+    (λ _. if-elim InRange (ltb (limits .inAll) (s .inputs + n)) (λ _. (omega arith, omega arith))
+    (λ _. if-elim InRange (wrongK kind k n) (λ _. (omega arith, omega arith)) (λ _. tt))))))
+step-range len s (EventInput e) =
+    if-elim InRange (eqb (s .left) 0) (λ _. (omega arith, omega arith))
+    (λ _. if-elim InRange (leb (s .events) e) (λ _. (omega arith, omega arith)) (λ _. tt))
+step-range len s (GateInput g) =
+    if-elim InRange (eqb (s .left) 0) (λ _. (omega arith, omega arith))
+    (λ _. if-elim InRange (leb (s .gates) (g + 1)) (λ _. (omega arith, omega arith)) (λ _. tt))
+step-range len s End =
+    if-elim InRange (ltb 0 (s .left)) (λ _. (omega arith, omega arith))
+    (λ _. if-elim InRange (ltb (s .at + 1) len) (λ _. (omega arith, omega arith))
+    (λ _. if-elim InRange (eqb (s .events) 0) (λ _. (omega arith, omega arith))
+    (λ _. if-elim InRange (eqb (s .gates) 0) (λ _. (omega arith, omega arith)) (λ _. tt))))
+
+stepped : (bytes : List ℕ) (s : State) → InRange (stepOf limits bytes s)
+unfolding stepOf
+stepped bytes s = step-range (length bytes) s (recordOf (drop (s .at) bytes))
+
+closed : (b : Book) → Ranged (closeOf b)
+unfolding closeOf
+closed b = go (unusedBy b)
+  where
+    go : (f : Found) → Ranged (elim f [ At place ↦ refuse (Unused place) | Nothing ↦ accept b ])
+    go (At p) = (omega arith, omega arith)
+    go Nothing = tt
+
+running : (bytes : List ℕ) (turns : ℕ) (b : Book) → Ranged (run limits turns bytes b)
+unfolding run
+running bytes zero b = (omega arith, omega arith)
+running bytes (suc turns) b = go (stepOf limits bytes (counts b)) refl (stepped bytes (counts b)) (running bytes turns)
+  where
+    go : (x : Step) → stepOf limits bytes (counts b) ≡ x → InRange x → ((b : Book) → Ranged (run limits turns bytes b)) → Ranged (run limits (suc turns) bytes b)
+    go (AddEvent c next) q h on = subst Ranged (sym (run-event turns bytes b c next q)) (on (addEvent b c next))
+    go (AddGate kind k n next) q h on = subst Ranged (sym (run-gate turns bytes b kind k n next q)) (on (addGate b kind k n next))
+    go (AddInput i next) q h on = subst Ranged (sym (run-input turns bytes b i next q)) (on (addInput b i next))
+    go Close q h on = subst Ranged (sym (run-close turns bytes b q)) (closed b)
+    go (Refused a) q h on = subst Ranged (sym (run-refused turns bytes b a q)) h
+
+pub refusal-range : (bytes : List ℕ) (w : Answer) → outcome limits bytes ≡ refuse w → OneToEight (verdict w .number)
+unfolding outcome
+refusal-range bytes w e = subst Ranged e (running bytes (length bytes + 1) start)

@@ -1,0 +1,130 @@
+-- WHICH ANSWER: each number is given exactly when its rule is the first that is broken.
+-- Assumes nothing.
+use mathlib.Core.Path.{_≡_, refl, sym, ap, _∙_, subst}
+use mathlib.Core.Logic.{_↔_}
+use mathlib.Core.List.{List}
+use Prim.Native.Nat.{ℕ}
+use native.Mathlib.Omega.{arith}
+use lib.ListN.{length, replicate}
+use Rattle.paper.specs.Limits.{limits}
+use Rattle.paper.specs.Answers.{NodesFull, CutsFull}
+use Rattle.records.specs.Answers.{verdict}
+use Rattle.records.specs.Judge.{refuse, outcome}
+use Rattle.records.specs.Trees.{treeOf}
+use Rattle.records.specs.declared.Answer.{Answer}
+use Rattle.analyser.specs.Memory.{Memory, Lengths, AllZero, capacity}
+use Rattle.analyser.specs.Analysed.{Refused, at, Done, Analysed}
+use Rattle.analyser.specs.declared.Analysis.{Analysis}
+use Rattle.analyser.specs.Reasons.{OneToEight, BadTree, Accepted, Long, TooManyNodes, TooManyCuts}
+use Rattle.analyser.proofs.Refusals.{refusal-range}
+use Rattle.analyser.proofs.Coincide.{same-answer, same-book, not-both, coincide, same-number}
+
+-- ---- an outcome for each refusal
+
+answer : ℕ → ℕ → Analysis
+answer number place = record { number = number; place = place; nodes = 0; «cut_nodes» = 0; root = 0; «cut_root» = 0 }
+
+answers : (number place : ℕ) → Refused (at number place) (answer number place)
+unfolding answer
+answers number place = record { number = refl; place = refl; no-nodes = refl; no-cut-nodes = refl; no-root = refl; no-cut-root = refl }
+
+empty : List ℕ → List ℕ
+empty l = replicate (length l) 0
+
+zeroed : Memory → Memory
+zeroed m = record {
+  nodes = empty (m .nodes);
+  cuts = empty (m .cuts);
+  gates = empty (m .gates);
+  memo = empty (m .memo);
+  heads = empty (m .heads);
+  next = empty (m .next);
+  marks = empty (m .marks);
+  own = empty (m .own);
+}
+
+all-zeroed : (m : Memory) → AllZero m (zeroed m)
+unfolding zeroed empty
+all-zeroed m = record { nodes = refl; cuts = refl; gates = refl; memo = refl; heads = refl; next = refl; marks = refl; own = refl }
+
+-- ---- what a number says
+
+module _ {bytes : List ℕ} {m m′ : Memory} {a : Analysis} where
+  from-tree : Analysed bytes m m′ a → OneToEight (a .number) → BadTree bytes (a .number) (a .place)
+  from-tree (Analysed.bad-tree w p r k) q = record { answer = w; refused = p; number-is = r .number; place-is = r .place }
+  from-tree (Analysed.bad-length b p n r k) q = absurd (let e = r .number in omega arith)
+  from-tree (Analysed.nodes-full b p n f r k) q = absurd (let e = r .number in omega arith)
+  from-tree (Analysed.cuts-full b p n f g r k) q = absurd (let e = r .number in omega arith)
+  from-tree (Analysed.done b p n f g r) q = absurd (let e = r .number in omega arith)
+
+  from-nine : Analysed bytes m m′ a → a .number ≡ 9 → (t : Accepted bytes) × (Long t m → ⊥)
+  from-nine (Analysed.bad-tree w p r k) q = absurd (let e = r .number in let (l, h) = refusal-range bytes w p in omega arith)
+  from-nine (Analysed.bad-length b p n r k) q = (record { book = b; is = p }, n)
+  from-nine (Analysed.nodes-full b p n f r k) q = absurd (let e = r .number in omega arith)
+  from-nine (Analysed.cuts-full b p n f g r k) q = absurd (let e = r .number in omega arith)
+  from-nine (Analysed.done b p n f g r) q = absurd (let e = r .number in omega arith)
+
+  from-ten : Analysed bytes m m′ a → a .number ≡ 10 → (t : Accepted bytes) × Long t m × TooManyNodes t m
+  from-ten (Analysed.bad-tree w p r k) q = absurd (let e = r .number in let (l, h) = refusal-range bytes w p in omega arith)
+  from-ten (Analysed.bad-length b p n r k) q = absurd (let e = r .number in omega arith)
+  from-ten (Analysed.nodes-full b p n f r k) q = (record { book = b; is = p }, n, f)
+  from-ten (Analysed.cuts-full b p n f g r k) q = absurd (let e = r .number in omega arith)
+  from-ten (Analysed.done b p n f g r) q = absurd (let e = r .number in omega arith)
+
+  from-eleven : Analysed bytes m m′ a → a .number ≡ 11 → (t : Accepted bytes) × Long t m × (TooManyNodes t m → ⊥) × TooManyCuts t m
+  from-eleven (Analysed.bad-tree w p r k) q = absurd (let e = r .number in let (l, h) = refusal-range bytes w p in omega arith)
+  from-eleven (Analysed.bad-length b p n r k) q = absurd (let e = r .number in omega arith)
+  from-eleven (Analysed.nodes-full b p n f r k) q = absurd (let e = r .number in omega arith)
+  from-eleven (Analysed.cuts-full b p n f g r k) q = (record { book = b; is = p }, n, f, g)
+  from-eleven (Analysed.done b p n f g r) q = absurd (let e = r .number in omega arith)
+
+  -- and a done analysis leaves its tables
+  from-done : Analysed bytes m m′ a → a .number ≡ 0 → (t : Accepted bytes) × Long t m × (TooManyNodes t m → ⊥) × (TooManyCuts t m → ⊥) × Done (treeOf (t .book)) m m′ a
+  from-done (Analysed.bad-tree w p r k) q = absurd (let e = r .number in let (l, h) = refusal-range bytes w p in omega arith)
+  from-done (Analysed.bad-length b p n r k) q = absurd (let e = r .number in omega arith)
+  from-done (Analysed.nodes-full b p n f r k) q = absurd (let e = r .number in omega arith)
+  from-done (Analysed.cuts-full b p n f g r k) q = absurd (let e = r .number in omega arith)
+  from-done (Analysed.done b p n f g r) q = (record { book = b; is = p }, n, f, g, r)
+
+  pub finished-tree : Analysed bytes m m′ a → a .number ≡ 0 → (t : Accepted bytes) × Done (treeOf (t .book)) m m′ a
+  finished-tree x q = let (t, n, f, g, d) = from-done x q in (t, d)
+
+  to-done : Analysed bytes m m′ a → ((t : Accepted bytes) × Long t m × (TooManyNodes t m → ⊥) × (TooManyCuts t m → ⊥)) → a .number ≡ 0
+  to-done (Analysed.bad-tree w p r k) (t, l, g, z) = absurd (not-both bytes p (t .is))
+  to-done (Analysed.bad-length b p n r k) (t, l, g, z) = absurd (n (subst (λ x. Lengths (length (treeOf x .gates)) m) (same-book bytes p (t .is)) l))
+  to-done (Analysed.nodes-full b p n f r k) (t, l, g, z) = absurd (g (subst (λ x. NodesFull (treeOf x) (capacity (m .nodes))) (same-book bytes (t .is) p) f))
+  to-done (Analysed.cuts-full b p n f g r k) (t, l, y, z) = absurd (z (subst (λ x. CutsFull (treeOf x) (capacity (m .cuts))) (same-book bytes (t .is) p) g))
+  to-done (Analysed.done b p n f g r) z = r .number
+
+-- ---- the numbers
+
+module _ {bytes : List ℕ} {m m′ : Memory} {a : Analysis} (x : Analysed bytes m m′ a) where
+  -- the outcome of a refusal is the outcome
+  is-number : {m″ : Memory} (number place : ℕ) → Analysed bytes m m″ (answer number place) → a .number ≡ number
+  unfolding answer
+  is-number number place y = same-number (coincide y x)
+
+  -- 1 to 8 exactly when the bytes are refused, and then with their number and place
+  pub one-to-eight : OneToEight (a .number) ↔ BadTree bytes (a .number) (a .place)
+  one-to-eight = (from-tree x, λ b. subst OneToEight (sym (b .number-is)) (refusal-range bytes (b .answer) (b .refused)))
+
+  pub refused-so : (w : Answer) → outcome limits bytes ≡ refuse w → (a .number ≡ verdict w .number) × (a .place ≡ verdict w .place)
+  refused-so w p = let b = from-tree x (subst OneToEight (sym (is-number (verdict w .number) (verdict w .place) (Analysed.bad-tree w p (answers (verdict w .number) (verdict w .place)) refl))) (refusal-range bytes w p)) in
+      let e : b .answer ≡ w = same-answer bytes p (b .refused) in
+      (b .number-is ∙ ap (λ y. verdict y .number) e, b .place-is ∙ ap (λ y. verdict y .place) e)
+
+  -- 9 exactly when an accepted tree meets a length that breaks the rules
+  pub nine : (a .number ≡ 9) ↔ ((t : Accepted bytes) × (Long t m → ⊥))
+  nine = (from-nine x, λ (t, n). is-number 9 0 (Analysed.bad-length (t .book) (t .is) n (answers 9 0) refl))
+
+  -- 10 exactly when, with right lengths, more nodes are needed than the node table has room for
+  pub ten : (a .number ≡ 10) ↔ ((t : Accepted bytes) × Long t m × TooManyNodes t m)
+  ten = (from-ten x, λ (t, n, f). is-number 10 0 (Analysed.nodes-full (t .book) (t .is) n f (answers 10 0) (all-zeroed m)))
+
+  -- 11 exactly when, not 10, more cut nodes are needed than the cut table has room for
+  pub eleven : (a .number ≡ 11) ↔ ((t : Accepted bytes) × Long t m × (TooManyNodes t m → ⊥) × TooManyCuts t m)
+  eleven = (from-eleven x, λ (t, n, f, g). is-number 11 0 (Analysed.cuts-full (t .book) (t .is) n f g (answers 11 0) (all-zeroed m)))
+
+  -- 0 exactly when nothing refuses
+  pub zero-when : (a .number ≡ 0) ↔ ((t : Accepted bytes) × Long t m × (TooManyNodes t m → ⊥) × (TooManyCuts t m → ⊥))
+  zero-when = ((λ q. let (t, n, f, g, d) = from-done x q in (t, n, f, g)), to-done x)

@@ -1,0 +1,78 @@
+-- Room after room: never refused, and fewer cuts are left after each that is not the last.
+-- Assumes nothing.
+use mathlib.Core.Path.{_≡_, refl, sym, ap, _∙_, subst}
+use mathlib.Core.Bool.{Bool, true, false, true≢false}
+use mathlib.Core.List.{List, [], _∷_}
+use Prim.Native.Nat.{ℕ, _≤_, _<_}
+use native.Mathlib.Omega.{arith}
+use lib.ListN.{length, drop, length-append}
+use Rattle.paper.specs.Limits.{limits}
+use Rattle.paper.specs.Sets.{Set, members}
+use Rattle.paper.specs.Diagrams.{Diagram}
+use Rattle.paper.specs.Listing.{setsBytes, fitting}
+use Rattle.sets.specs.Words.{setOf}
+use Rattle.sets.proofs.Count.{count-le, cut-length}
+use Rattle.tables.specs.Table.{den}
+use Rattle.tables.specs.Lent.{Lent}
+use Rattle.listing.specs.Answers.{toList, Within, Short, Answered}
+use Rattle.listing.specs.Answers as answers
+use Rattle.listing.proofs.Answers.{Left}
+use Rattle.listing.proofs.Join.{part, goes-on}
+use Rattle.calls.specs.Rooms.{longest, Next}
+
+-- such a room is never too small
+never-short : (n size : ℕ) (l : List Set) → n ≤ limits .events → longest ≤ size → Short n size l → ⊥
+never-short n size [] few h s = s
+never-short n size (S ∷ l) few h s =
+    let c = cut-length (members n S) in
+    let m = count-le S n 0 in
+    omega arith
+
+-- the last set of a call is one of the n events
+left-within : {n : ℕ} {d : Diagram} (last : List ℕ) {q : List Set} → Left n d (setOf last) q → Within n false last
+left-within last l e b = true≢false (sym (b .is) ∙ l .hi (b .event) (b .above))
+
+module _ {n : ℕ} {T : List ℕ} {c root : ℕ} {begin : Bool} {ws room room′ : List ℕ} {count used : ℕ} {last : List ℕ} {finished : Bool} where
+  zero-next : answers.Done n (den T root) (answers.startOf begin ws) (fitting n (length room) (toList n (den T root) begin ws)) room room′ 0 count used last finished
+      → Answered n T c root begin ws room room′ 0 count used last finished → Next n (den T root) begin ws room′ 0 count used last finished
+  zero-next d a =
+      let p = part a in
+      let w = fitting n (length room) (toList n (den T root) begin ws) in
+      let b = ap length (d .bytes) ∙ length-append (setsBytes n w) (drop used room) in
+      let l = d .long in
+      record {
+        is = refl;
+        written = w;
+        left = p .q;
+        whole = p .whole;
+        after = p .after .is;
+        within = left-within last (p .after);
+        inside = omega arith;
+        bytes = p .bytes;
+        cuts = p .cuts;
+        end = p .end;
+        on = goes-on a;
+      }
+
+-- NEVER REFUSED
+pub never-refused : {n : ℕ} {T : List ℕ} {c root : ℕ} {begin : Bool} {ws room room′ : List ℕ} {number count used : ℕ} {last : List ℕ} {finished : Bool}
+    → Lent true n T c root → Within n begin ws → longest ≤ length room
+    → Answered n T c root begin ws room room′ number count used last finished → Next n (den T root) begin ws room′ number count used last finished
+never-refused lent ok h (Answered.no-diagram e r) = absurd (e lent)
+never-refused lent ok h (Answered.beyond v e b r) = absurd (ok e b)
+never-refused {n} {T} {root = root} {begin} {ws} {room} lent ok h (Answered.short v w s r) = absurd (never-short n (length room) (toList n (den T root) begin ws) (lent .few-events) h s)
+never-refused {n} {T} {c} {root} {begin} {ws} {room} {room′} {number} {count} {used} {last} {finished} lent ok h (Answered.done v w s r) =
+    subst (λ (k : ℕ). Next n (den T root) begin ws room′ k count used last finished) (sym (r .is)) (zero-next d (Answered.done v w s d))
+  where
+    d : answers.Done n (den T root) (answers.startOf begin ws) (fitting n (length room) (toList n (den T root) begin ws)) room room′ 0 count used last finished
+    d = subst (λ (k : ℕ). answers.Done n (den T root) (answers.startOf begin ws) (fitting n (length room) (toList n (den T root) begin ws)) room room′ k count used last finished) (r .is) r
+
+-- THE MEASURE of a listing room by room: the cuts that are left
+pub fewer : {n : ℕ} {d : Diagram} {begin : Bool} {ws room′ : List ℕ} {number count used : ℕ} {last : List ℕ} {finished : Bool}
+    → Next n d begin ws room′ number count used last finished → finished ≡ false → length (toList n d false last) < length (toList n d begin ws)
+fewer x f =
+    let w = ap length (x .whole) ∙ length-append (x .written) (x .left) in
+    let a = ap length (x .after) in
+    let k = x .cuts in
+    let o = x .on f in
+    omega arith

@@ -1,0 +1,35 @@
+-- The bracket of a tree that was read and analysed.
+-- Assumes nothing.
+use mathlib.Core.Path.{_≡_}
+use mathlib.Core.Bool.{true, false}
+use mathlib.Core.List.{List, map}
+use Prim.Native.Nat.{ℕ}
+use lib.ListN.{length}
+use Rattle.paper.specs.Limits.{limits, billion}
+use Rattle.paper.specs.Chance.{low, high}
+use Rattle.tables.specs.Table.{den}
+use Rattle.tables.specs.Lent.{Lent}
+use Rattle.records.specs.declared.Event.{Event}
+use Rattle.records.specs.declared.Tree.{Tree}
+use Rattle.bracket.specs.Bracketed.{chanceIn, Chances}
+use Rattle.analyser.specs.declared.Analysis.{Analysis}
+
+abbrev pub chancesOf : Tree → List ℕ
+chancesOf t = map (λ (e : Event). e .chance) (t .events)
+
+-- a tree's node table, its events' chances none above D
+pub record Priced (t : Tree) (T : List ℕ) (c root : ℕ) : Type 0 where
+  pub lent : Lent false (t .«event_count») T c root
+  pub long : length (t .events) ≡ limits .events
+  pub chances : Chances (t .«event_count») (chancesOf t)
+
+-- the bracket is answered 0, with both numbers
+pub record Topped (t : Tree) (T : List ℕ) (root number lo hi : ℕ) : Type 0 where
+  pub is : number ≡ 0
+  pub low-is : lo ≡ low billion (chanceIn (chancesOf t)) (den T root)
+  pub high-is : hi ≡ high billion (chanceIn (chancesOf t)) (den T root)
+
+-- WHAT A DONE ANALYSIS of a tree's bytes leaves: a table to bracket and a table to list
+pub record Held (t : Tree) (T C : List ℕ) (a : Analysis) : Type 0 where
+  pub nodes : Priced t T (a .nodes) (a .root)
+  pub cuts : Lent true (t .«event_count») C (a .«cut_nodes») (a .«cut_root»)

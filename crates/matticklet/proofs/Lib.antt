@@ -1,0 +1,2 @@
+-- The pages of a listing.
+pub mod Turning

@@ -1,0 +1,88 @@
+// The program: reads a tree from standard input, and writes its counts, its cuts and its top's bracket, or one line of refusal.
+use analyser::Analysis;
+use records::Tree;
+ghost use Rattle.calls.specs.Tops.{Held};
+
+mod pages; // pages.rt: the lines of the cuts, one room after another
+
+// No more of the input is read: these bytes decide.
+const MOST: usize = 16384;
+
+// Each table has room for 4,096 nodes, and each work area a number for each of them and for the leaves.
+const TABLE: usize = 12288;
+
+const AREA: usize = 4098;
+
+const MEMO: usize = 65536;
+
+fn say_refusal(number: u8, place: usize) {
+    let mut line = [0u8; text::ROOM];
+    let n = text::refusal(&mut line, number, place);
+    io::write_all(1, &line[..n]);
+}
+
+fn say_head(events: usize, gates: usize, nodes: usize) {
+    let mut lines = [0u8; text::ROOM];
+    let n = text::head(&mut lines, events, gates, nodes);
+    io::write_all(1, &lines[..n]);
+}
+
+fn say_top(low: u64, high: u64) {
+    let mut line = [0u8; text::ROOM];
+    let n = text::top(&mut line, low, high);
+    io::write_all(1, &line[..n]);
+}
+
+// Writes what the tables of a done analysis hold.
+fn report(
+    tree: Tree,
+    a: Analysis,
+    nodes: &[u32; TABLE],
+    cuts: &[u32; TABLE],
+    lows: &mut [u32; AREA],
+    highs: &mut [u32; AREA],
+)
+    requires { ⌜ Held tree (now nodes) (now cuts) a ⌝ }
+{
+    let events = tree.event_count;
+    say_head(events, tree.gate_count, a.nodes);
+    pages::say_cuts(cuts, events, a.cut_nodes, a.cut_root);
+    let ends = calls::top(tree, nodes, a.nodes, a.root, lows, highs);
+    say_top(ends.low, ends.high);
+}
+
+// Analyses a tree in tables of 4,096 nodes, and writes the answer.
+fn answer(bytes: &[u8]) {
+    let mut nodes = [0u32; TABLE];
+    let mut cuts = [0u32; TABLE];
+    let mut gates = [0u32; paper::GATES];
+    let mut memo = [0u32; MEMO];
+    let mut heads = [0u32; AREA];
+    let mut next = [0u32; AREA];
+    let mut marks = [0u32; AREA];
+    let mut own = [0u32; AREA];
+    let a = analyser::analyse(
+        bytes,
+        &mut nodes,
+        &mut cuts,
+        &mut gates,
+        &mut memo,
+        &mut heads,
+        &mut next,
+        &mut marks,
+        &mut own,
+    );
+    if a.number != 0 {
+        say_refusal(a.number, a.place);
+        return;
+    }
+    let r = analyser::read(bytes);
+    let tree = r.tree;
+    report(tree, a, &nodes, &cuts, &mut heads, &mut next);
+}
+
+fn main() {
+    let mut bytes = [0u8; MOST];
+    let n = io::read_full(0, &mut bytes);
+    answer(&bytes[..n]);
+}

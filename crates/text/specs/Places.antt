@@ -1,0 +1,37 @@
+-- Text put into a lent array, and the text of a listing's bytes.
+-- Assumes nothing.
+use mathlib.Core.Path.{_≡_}
+use mathlib.Core.Bool.{cond}
+use mathlib.Core.List.{List, [], _∷_, _++_}
+use Prim.Native.Nat.{ℕ, _+_, _≤_}
+use lib.Dec.{eqb}
+use lib.ListN.{length, take, drop}
+use Rattle.io.specs.Counts.{Counts}
+use Rattle.text.specs.Lines.{decimal, blank, lineEnd}
+use Rattle.text.specs.declared.cuts.Place.{Place}
+use Rattle.text.specs.declared.cuts.Place.the-variants.{Start, Event, Behind}
+
+-- s stands behind the first `at` bytes of a text, up to the place `end`; the rest is as it was
+pub record Put (text : List ℕ) (at : ℕ) (s text′ : List ℕ) (end : ℕ) : Type 0 where
+  pub inside : end ≤ length text
+  pub to : end ≡ at + length s
+  pub is : text′ ≡ take at text ++ s ++ drop end text
+
+-- the first r bytes of a text are s
+abbrev pub Front : ℕ → List ℕ → List ℕ → Type 0
+Front r text s = Counts r text × (take r text ≡ s)
+
+-- what a byte of a listing adds to the text, by the place where it stands, and the place behind it
+abbrev pub said : Place → ℕ → List ℕ
+said Start b = cond (eqb b 0x21) [] lineEnd
+said Event b = decimal b
+said Behind b = cond (eqb b 0x21) blank lineEnd
+
+abbrev pub after : Place → ℕ → Place
+after Start b = cond (eqb b 0x21) Event Start
+after Event b = Behind
+after Behind b = cond (eqb b 0x21) Event Start
+
+unfoldable pub spelled : Place → List ℕ → List ℕ
+spelled p [] = []
+spelled p (b ∷ l) = said p b ++ spelled (after p b) l

@@ -1,0 +1,229 @@
+/* The library behind a pipe: takes calls on standard input, makes them, and answers on standard output, until the input ends.
+ *
+ * A request is the call's number, then its arguments in the header's order: a number as 8 bytes, an area as its length in elements (8 bytes) and
+ * its contents as lent. The answer area is not sent. An answer is a word that says what stands (below), the answer's words, and the contents of
+ * every area that the call may write. All numbers have the low byte first.
+ *
+ * Every area, the answer too, lies between guard bytes in memory of its own. `driver N` spoils one thing about each call N, to see that a
+ * comparison notices. */
+#include <stdint.h>
+#include <stdio.h>
+#include <stdlib.h>
+#include <string.h>
+
+#include "matticklet.h"
+
+enum { GUARD = 72, AREAS = 16 }; /* no area is aligned beyond its need */
+enum { GUARDS_STAND = 1, CONST_AREAS_STAND = 2 };
+enum { READ = 1, WRITE = 2, ANALYSE = 3, LIST = 4, BRACKET = 5 };
+
+struct area {
+    unsigned char *whole; /* guard, contents, guard */
+    unsigned char *before; /* a copy of the contents of a const area, else null */
+    size_t room; /* bytes allocated */
+    size_t length; /* elements */
+    size_t bytes;
+};
+
+static struct area areas[AREAS];
+static int used; /* areas of the request at hand */
+static int spoiled; /* the call to be spoilt, 0 for none */
+
+static void fail(const char *why)
+{
+    fprintf(stderr, "driver: %s\n", why);
+    exit(3);
+}
+
+static void take(void *to, size_t bytes)
+{
+    if (bytes != 0 && fread(to, 1, bytes, stdin) != bytes)
+        fail("the request ends early");
+}
+
+static void give(const void *from, size_t bytes)
+{
+    if (bytes != 0 && fwrite(from, 1, bytes, stdout) != bytes)
+        fail("the answer cannot be written");
+}
+
+static uint64_t number(void)
+{
+    uint64_t n;
+    take(&n, sizeof n);
+    return n;
+}
+
+static unsigned char guard_at(size_t i)
+{
+    return (unsigned char)(0xC3 + 37 * i);
+}
+
+/* An area with its guards; its contents are still open. */
+static struct area *fresh(size_t length, size_t size)
+{
+    struct area *a = &areas[used++];
+    a->length = length;
+    a->bytes = length * size;
+    if (a->room < a->bytes) {
+        free(a->whole);
+        free(a->before);
+        a->room = 2 * a->bytes;
+        a->whole = NULL;
+        a->before = NULL;
+    }
+    if (a->whole == NULL) {
+        a->whole = malloc(a->room + 2 * GUARD);
+        a->before = malloc(a->room + 1);
+        if (a->whole == NULL || a->before == NULL)
+            fail("no memory");
+    }
+    for (size_t i = 0; i < GUARD; i++) {
+        a->whole[i] = guard_at(i);
+        a->whole[GUARD + a->bytes + i] = guard_at(i);
+    }
+    return a;
+}
+
+static void *contents(const struct area *a)
+{
+    return a->whole + GUARD;
+}
+
+/* The next argument, an area of elements of this size. */
+static struct area *area(size_t size)
+{
+    size_t length = number();
+    struct area *a = fresh(length, size);
+    take(contents(a), a->bytes);
+    memcpy(a->before, contents(a), a->bytes);
+    return a;
+}
+
+/* The answer area, of so many words, with anything in it. */
+static struct area *answer_area(size_t words)
+{
+    struct area *a = fresh(words, sizeof(uint64_t));
+    memset(contents(a), 0xEE, a->bytes);
+    return a;
+}
+
+static uint64_t guards(void)
+{
+    for (int k = 0; k < used; k++)
+        for (size_t i = 0; i < GUARD; i++)
+            if (areas[k].whole[i] != guard_at(i) || areas[k].whole[GUARD + areas[k].bytes + i] != guard_at(i))
+                return 0;
+    return GUARDS_STAND;
+}
+
+/* Sends the answer, and the areas that may be written; the others must be as they were. */
+static void reply(struct area *answer, struct area **written, int count)
+{
+    uint64_t stands = guards() | CONST_AREAS_STAND;
+    for (int k = 0; k < used; k++) {
+        int may = &areas[k] == answer;
+        for (int w = 0; w < count; w++)
+            may |= &areas[k] == written[w];
+        if (!may && memcmp(areas[k].before, contents(&areas[k]), areas[k].bytes) != 0)
+            stands &= ~(uint64_t)CONST_AREAS_STAND;
+    }
+    give(&stands, sizeof stands);
+    give(contents(answer), answer->bytes);
+    for (int w = 0; w < count; w++)
+        give(contents(written[w]), written[w]->bytes);
+}
+
+static void read_call(void)
+{
+    struct area *bytes = area(1), *chances = area(4), *kinds = area(1), *leasts = area(1), *sizes = area(1), *inputs = area(2);
+    struct area *answer = answer_area(4);
+    struct matticklet_reading *a = contents(answer);
+    matticklet_read(contents(bytes), bytes->length, a, contents(chances), contents(kinds), contents(leasts), contents(sizes),
+                    contents(inputs));
+    if (spoiled == READ && a->number == MATTICKLET_DONE && a->gates == 2)
+        ((uint16_t *)contents(inputs))[MATTICKLET_INPUTS - 1] ^= 1; /* not zero behind the tree */
+    struct area *written[] = { chances, kinds, leasts, sizes, inputs };
+    reply(answer, written, 5);
+}
+
+static void write_call(void)
+{
+    size_t events = number(), gates = number();
+    struct area *chances = area(4), *kinds = area(1), *leasts = area(1), *sizes = area(1), *inputs = area(2), *room = area(1);
+    struct area *answer = answer_area(3);
+    struct matticklet_writing *a = contents(answer);
+    matticklet_write(events, gates, contents(chances), contents(kinds), contents(leasts), contents(sizes), contents(inputs),
+                     contents(room), room->length, a);
+    if (spoiled == WRITE && a->number == MATTICKLET_LENGTH && room->length > 5)
+        ((uint8_t *)contents(room))[0] = 1; /* a refusal that writes */
+    struct area *written[] = { room };
+    reply(answer, written, 1);
+}
+
+static void analyse_call(void)
+{
+    struct area *bytes = area(1), *nodes = area(4), *cuts = area(4), *gates = area(4), *memo = area(4);
+    struct area *heads = area(4), *next = area(4), *marks = area(4), *own = area(4);
+    struct area *answer = answer_area(6);
+    struct matticklet_analysis *a = contents(answer);
+    matticklet_analyse(contents(bytes), bytes->length, contents(nodes), nodes->length, contents(cuts), cuts->length,
+                       contents(gates), gates->length, contents(memo), memo->length, contents(heads), heads->length,
+                       contents(next), next->length, contents(marks), marks->length, contents(own), own->length, a);
+    if (spoiled == ANALYSE && a->number == MATTICKLET_CUTS_FULL && gates->length > 3)
+        ((uint32_t *)contents(own))[own->length - 1] = 2; /* 11 leaves a number standing */
+    struct area *written[] = { nodes, cuts, gates, memo, heads, next, marks, own };
+    reply(answer, written, 8);
+}
+
+static void list_call(void)
+{
+    struct area *cuts = area(4);
+    size_t events = number(), count = number(), root = number();
+    bool begin = number() != 0;
+    struct area *after = area(8), *room = area(1);
+    struct area *answer = answer_area(8);
+    struct matticklet_listing *a = contents(answer);
+    matticklet_list(contents(cuts), cuts->length, events, count, root, begin, contents(after), contents(room), room->length, a);
+    if (spoiled == LIST && a->number == MATTICKLET_DONE && a->cuts > 3)
+        a->finished ^= 1;
+    struct area *written[] = { room };
+    reply(answer, written, 1);
+}
+
+static void bracket_call(void)
+{
+    struct area *nodes = area(4);
+    size_t events = number(), count = number(), root = number();
+    struct area *chances = area(4), *lows = area(4), *highs = area(4);
+    struct area *answer = answer_area(3);
+    struct matticklet_ends *a = contents(answer);
+    matticklet_bracket(contents(nodes), nodes->length, events, count, root, contents(chances), chances->length, contents(lows),
+                       lows->length, contents(highs), highs->length, a);
+    if (spoiled == BRACKET && a->low != a->high && lows->length > 0)
+        lows->whole[GUARD - 1] ^= 1; /* one byte in front of an area */
+    struct area *written[] = { lows, highs };
+    reply(answer, written, 2);
+}
+
+int main(int words, char **word)
+{
+    uint64_t call;
+    spoiled = words > 1 ? atoi(word[1]) : 0;
+    setvbuf(stdin, NULL, _IOFBF, 1 << 16);
+    setvbuf(stdout, NULL, _IOFBF, 1 << 16);
+    while (fread(&call, 1, sizeof call, stdin) == sizeof call) {
+        used = 0;
+        switch (call) {
+        case READ: read_call(); break;
+        case WRITE: write_call(); break;
+        case ANALYSE: analyse_call(); break;
+        case LIST: list_call(); break;
+        case BRACKET: bracket_call(); break;
+        default: fail("no such call");
+        }
+        if (fflush(stdout) != 0)
+            fail("the answer cannot be written");
+    }
+    return 0;
+}

@@ -1,0 +1,118 @@
+//! The large inputs of every run: trees of known numbers at exact capacities, the longest bytes, the limits of lengths.
+
+use crate::analysis::{analyse, Lengths};
+use crate::city::{self, city};
+use crate::compare::{compare_analysis_in, compare_diagram, compare_reading};
+use crate::compare_lent::one_listing;
+use crate::diagrams;
+use crate::european::european_1;
+use crate::judge::write;
+use crate::lent::{Lent, Sort, MOST_NUMBERS};
+use crate::library::*;
+use crate::random::Random;
+use crate::tally::Tally;
+use crate::tree::*;
+
+pub fn compare_large(library: &dyn Library, tally: &mut Tally) {
+    let random = &mut Random::new(0);
+    tally.detailed = true;
+    compare_named(library, "European 1", &european_1(), random, tally);
+    compare_named(library, "a small city", &city(city::SMALL).tree, random, tally);
+    compare_named(library, "a middle city", &city(city::MIDDLE).tree, random, tally);
+    compare_named(library, "a large city", &city(city::LARGE).tree, random, tally);
+    compare_longest_bytes(library, random, tally);
+    compare_longest_tables(library, random, tally);
+    // These are too long to be told.
+    tally.detailed = false;
+    compare_largest_diagrams(library, random, tally);
+    tally.name = None;
+}
+
+/// Done with exactly the nodes that are needed, 10 and 11 with one less; then the listing, from room to room.
+fn compare_named(library: &dyn Library, name: &'static str, tree: &Tree, random: &mut Random, tally: &mut Tally) {
+    tally.name = Some(name);
+    let bytes = write(tree).expect("a named tree is accepted");
+    compare_reading(library, &bytes, random, tally);
+    let done = analyse(&bytes, Lengths::AMPLE).unwrap_or_else(|_| unreachable!("{name} has room in ample tables"));
+    let (nodes, cuts) = (done.robdd.nodes.count(), done.cuts.nodes.count());
+    for (nodes, cuts) in [(nodes, cuts), (nodes - 1, cuts), (nodes, cuts - 1)] {
+        let gate_list = tree.gates.len();
+        let lengths = Lengths { gate_list, memo: 1 << 20, ..Lengths::of_capacities(nodes, cuts) };
+        compare_analysis_in(library, &bytes, lengths, library.smallest_areas(nodes, cuts), random, tally);
+    }
+    let family = done.lent_cuts();
+    let mut after = None;
+    for _ in 0..40 {
+        let room = random.between(20_000, 40_000);
+        after = one_listing(library, &family, after, room, random, tally, name);
+        if after.is_none() {
+            break;
+        }
+    }
+}
+
+/// The longest run of records without a fault, and what may follow it.
+fn compare_longest_bytes(library: &dyn Library, random: &mut Random, tally: &mut Tally) {
+    tally.name = Some("the longest bytes");
+    let mut run = [1, 0, 0, 0, 0].repeat(MOST_EVENTS);
+    run.extend([4, 1, 1, 5, 0]);
+    let others = MOST_GATES - 1;
+    for gate in 1..MOST_GATES {
+        let n = (MOST_INPUTS - 1) / others + usize::from(gate <= (MOST_INPUTS - 1) % others);
+        run.extend([4, 1, n as u8]);
+        run.extend([6, 0, 0].repeat(n));
+    }
+    let tails: [&[u8]; 8] = [&[], &[7], &[7, 7], &[5, 0], &[6, 0, 0], &[2, 1], &[1, 0, 0, 0, 0], &[8]];
+    for tail in tails {
+        compare_reading(library, &[&run[..], tail].concat(), random, tally);
+        compare_reading(library, &[&run[..], tail, &[7; 5_000]].concat(), random, tally);
+    }
+}
+
+/// Tables and work areas at the limits of their lengths, and one number beyond.
+fn compare_longest_tables(library: &dyn Library, random: &mut Random, tally: &mut Tally) {
+    tally.name = Some("tables of 3,000,000 numbers");
+    let mut tree = Tree::of_chances(&[D / 10; 3]);
+    let first = and(&mut tree, &[Input::Event(0), Input::Event(1)]);
+    let second = and(&mut tree, &[Input::Event(1), Input::Event(2)]);
+    or(&mut tree, &[first, second]);
+    let bytes = write(&tree).expect("case 1 is accepted");
+    let most = MOST_NUMBERS;
+    for (node_table, cut_table) in
+        [(most, most), (most, 12), (18, most), (most + 3, 12), (18, most + 3), (most - 1, most)]
+    {
+        let work = library.smallest_areas(node_table / 3, cut_table / 3);
+        let lengths = Lengths { node_table, cut_table, gate_list: 3, memo: 4, areas_suffice: true };
+        compare_analysis_in(library, &bytes, lengths, work, random, tally);
+    }
+    for place in 0..4 {
+        let mut work = library.smallest_areas(most / 3, 4);
+        work[place] -= 1;
+        let lengths = Lengths { node_table: most, cut_table: 12, gate_list: 3, memo: 4, areas_suffice: false };
+        compare_analysis_in(library, &bytes, lengths, work, random, tally);
+    }
+}
+
+/// Lent diagrams of up to a million nodes, and a table that is too long.
+fn compare_largest_diagrams(library: &dyn Library, random: &mut Random, tally: &mut Tally) {
+    tally.input.clear();
+    tally.name = Some("lent diagrams of many nodes");
+    for sort in [Sort::Function, Sort::Cuts] {
+        for length in [MOST_NUMBERS, MOST_NUMBERS + 3] {
+            let empty = Lent { sort, event_count: 256, table: vec![9; length], node_count: 0, root: 1 };
+            compare_diagram(library, &empty, random, tally);
+        }
+        for _ in 0..3 {
+            let diagram = diagrams::good(random, sort, MOST_NUMBERS / 3 - 3);
+            tally.large("nodes lent", diagram.node_count);
+            compare_diagram(library, &diagram, random, tally);
+            let mut spoilt = diagram;
+            if spoilt.node_count > 0 {
+                // The last node that is judged breaks the numbering.
+                let last = 3 * (spoilt.node_count as usize - 1);
+                spoilt.table[last + 2] = spoilt.node_count as u32 + 1;
+                compare_diagram(library, &spoilt, random, tally);
+            }
+        }
+    }
+}
