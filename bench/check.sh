@@ -1,12 +1,13 @@
 #!/bin/sh
 # Compares the plain program with the second one: examples, then city-like trees, then many seeded trees.
+#   bench/check.sh [SEEDS [ARCHIVE]]    with an archive, the library in the plain program's place
 set -e
 cd "$(dirname "$0")/.."
 cargo build --release --offline --quiet -j1 --manifest-path tests/second/Cargo.toml
 second=tests/second/target/release/second
 work=$(mktemp -d)
 trap 'rm -rf "$work"' EXIT
-cc -std=c11 -O2 -Wall -Wextra -o "$work/plain" bench/plain_main.c
+cc -std=c11 -O2 -Wall -Wextra -Iinclude -o "$work/plain" bench/main.c "${2:-bench/plain.c}"
 compared=0
 same() { # FILE ROOM MOST MEMO
     $second plain "$1" "$2" "$3" > "$work/second.out"

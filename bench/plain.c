@@ -1,95 +1,85 @@
-/* The analyser's job in plain C, straight from the paper, with the library's table layouts: the yardstick
-   for the library's instructions. Nothing is proved here and reading trusts its bytes.
+/* The analyser's job in plain C, straight from the paper, behind the library's own header and with its table
+   layouts: the yardstick for the library's instructions. Nothing is proved here, and reading trusts its bytes.
 
-   The four entry points, which callgrind counts apart, are build, cuts, list and bracket. Each does all
-   that the library's does: it clears what is lent, checks what number 12 checks, and leaves zeros. */
+   Each call does all that the library's does: it clears what is lent, checks what number 12 checks, and leaves
+   zeros. Reading a tree into memory and writing it have no counterpart here. */
 
-#include <stdint.h>
+#include "matticklet.h"
 #include <stdio.h>
-#include <stdlib.h>
 #include <string.h>
 
 typedef uint32_t u32;
 typedef uint64_t u64;
 
-#define NOINLINE __attribute__((noinline))
 #define FULL UINT32_MAX
 #define D 1000000000u
 
-enum { MOST_EVENTS = 256, MOST_GATES = 512, MOST_INPUTS = 4096, AND = 2, OR = 3 };
+enum { AND = 2, OR = 3, WITHOUT = 3 };
 
-/* Memo operations; 0 marks an empty place. And joins with the leaf 0 that decides, or with the leaf 1. */
-enum { MEMO_WITHOUT = 3 };
+/* A table that grows, and the memo beside it. heads[h] is the last stored node with hash h or 0, next[k] the last
+   one before it. A place of the memo is operation, F, G, result: 1 and, 2 or, 3 without, 0 for empty. */
+typedef struct {
+    u32 *triples; /* event, failed, sound; node i at 3 (i - 2) */
+    u32 *heads, *next, *memo;
+    u32 count, capacity, slots, places;
+    const u32 *nodes; /* the node table, while the cut table grows */
+} Store;
 
 typedef struct {
-    u32 *triples;   /* event, failed, sound; node i at 3 (i - 2) */
-    u32 count, capacity;
-    u32 *heads, *next;
-    u64 area;       /* numbers in each of these two */
-} Table;
-
-typedef struct {
-    u32 *quadruples; /* operation, F, G, result */
-    u32 places;
-} Memo;
-
-typedef struct {
-    u32 events, gates, inputs;
-    u32 chance[MOST_EVENTS];
-    u32 kind[MOST_GATES], k[MOST_GATES], n[MOST_GATES];
-    u32 input[MOST_INPUTS];
+    u32 events, gates;
+    uint8_t kind[MATTICKLET_GATES], k[MATTICKLET_GATES], n[MATTICKLET_GATES];
+    uint16_t input[MATTICKLET_INPUTS]; /* event e is e, gate g is 256 + g */
 } Tree;
 
 #ifdef PROBES
 static u64 finds, links, questions, hits;
 #define COUNT(what) ((what)++)
+void plain_probes(void)
+{
+    printf("finds %llu links %llu questions %llu hits %llu\n", (unsigned long long)finds, (unsigned long long)links,
+           (unsigned long long)questions, (unsigned long long)hits);
+}
 #else
 #define COUNT(what) ((void)0)
 #endif
 
-static inline u32 event_of(const Table *t, u32 node) { return t->triples[3 * (node - 2)]; }
-static inline u32 failed_of(const Table *t, u32 node) { return t->triples[3 * (node - 2) + 1]; }
-static inline u32 sound_of(const Table *t, u32 node) { return t->triples[3 * (node - 2) + 2]; }
+static inline u32 event_of(const u32 *triples, u32 node) { return triples[3 * (u64)node - 6]; }
+static inline u32 failed_of(const u32 *triples, u32 node) { return triples[3 * (u64)node - 5]; }
+static inline u32 sound_of(const u32 *triples, u32 node) { return triples[3 * (u64)node - 4]; }
 
-/* Multiply and take the high part: never a remainder by a variable. */
+/* The library's hash: multiply and take the high part, never a remainder by a variable. */
 static inline u32 slot(u32 a, u32 b, u32 c, u32 slots)
 {
-    u32 h = a * 0x9E3779B1u + b * 0x85EBCA77u + c * 0xC2B2AE3Du;
-    h ^= h >> 15;
-    h *= 0x2C1B3C6Du;
-    return (u32)(((u64)h * slots) >> 32);
+    u32 mixed = a * 906908087u + b * 1641373853u + c * 2345438705u;
+    return (u32)(((u64)mixed * slots) >> 32);
 }
 
-/* heads[h] is the last stored node with hash h or 0, next[k] the last one before it. */
-static inline u32 find_or_add(Table *t, u32 event, u32 failed, u32 sound)
+static inline u32 find_or_add(Store *s, u32 event, u32 failed, u32 sound)
 {
-    if (t->capacity == 0) return FULL;
-    u32 h = slot(event, failed, sound, t->capacity);
+    u32 h = slot(event, failed, sound, s->slots);
     COUNT(finds);
-    for (u32 node = t->heads[h]; node != 0; node = t->next[node - 2]) {
+    for (u32 node = s->heads[h]; node != 0; node = s->next[(u64)node - 2]) {
         COUNT(links);
-        const u32 *triple = t->triples + 3 * (node - 2);
+        const u32 *triple = s->triples + 3 * (u64)node - 6;
         if (triple[0] == event && triple[1] == failed && triple[2] == sound) return node;
     }
-    if (t->count == t->capacity) return FULL;
-    u32 *triple = t->triples + 3 * t->count;
+    u32 count = s->count;
+    if (count == s->capacity) return FULL;
+    u32 *triple = s->triples + 3 * (u64)count;
     triple[0] = event;
     triple[1] = failed;
     triple[2] = sound;
-    u32 node = t->count + 2;
-    t->next[t->count] = t->heads[h];
-    t->heads[h] = node;
-    t->count++;
-    return node;
+    s->next[count] = s->heads[h];
+    s->heads[h] = count + 2;
+    s->count = count + 1;
+    return count + 2;
 }
 
-/* Answers a memo's result, or FULL for "unknown" with the place where the result belongs. */
-static inline u32 remembered(const Memo *m, u32 operation, u32 f, u32 g, u32 *place)
+/* Answers the memo's result, or FULL for "unknown" with the place where the result belongs. */
+static inline u32 remembered(const Store *s, u32 operation, u32 f, u32 g, u32 *place)
 {
-    *place = 0;
-    if (m->places == 0) return FULL;
-    *place = slot(operation, f, g, m->places);
-    const u32 *q = m->quadruples + 4 * (u64)*place;
+    *place = slot(operation, f, g, s->places);
+    const u32 *q = s->memo + 4 * (u64)*place;
     COUNT(questions);
     if (q[0] == operation && q[1] == f && q[2] == g) {
         COUNT(hits);
@@ -98,10 +88,9 @@ static inline u32 remembered(const Memo *m, u32 operation, u32 f, u32 g, u32 *pl
     return FULL;
 }
 
-static inline void remember(Memo *m, u32 place, u32 operation, u32 f, u32 g, u32 result)
+static inline void remember(Store *s, u32 place, u32 operation, u32 f, u32 g, u32 result)
 {
-    if (m->places == 0) return;
-    u32 *q = m->quadruples + 4 * (u64)place;
+    u32 *q = s->memo + 4 * (u64)place;
     q[0] = operation;
     q[1] = f;
     q[2] = g;
@@ -109,7 +98,7 @@ static inline void remember(Memo *m, u32 place, u32 operation, u32 f, u32 g, u32
 }
 
 /* Equal operands, a leaf or a memo hit answer before any call; z is the leaf that decides. */
-static inline u32 ask(const Memo *m, u32 z, u32 *f, u32 *g, u32 *place)
+static inline u32 ask(const Store *s, u32 z, u32 *f, u32 *g, u32 *place)
 {
     if (*f > *g) {
         u32 higher = *f;
@@ -118,165 +107,216 @@ static inline u32 ask(const Memo *m, u32 z, u32 *f, u32 *g, u32 *place)
     }
     if (*f == *g) return *f;
     if (*f < 2) return *f == z ? z : *g;
-    return remembered(m, z + 1, *f, *g, place);
+    return remembered(s, z + 1, *f, *g, place);
 }
 
-static u32 join_nodes(Table *t, Memo *m, u32 z, u32 f, u32 g, u32 place)
+static u32 join_nodes(Store *s, u32 z, u32 f, u32 g, u32 place)
 {
-    u32 x = event_of(t, f), y = event_of(t, g);
-    u32 event = x < y ? x : y;
-    u32 f1 = x == event ? failed_of(t, f) : f, f0 = x == event ? sound_of(t, f) : f;
-    u32 g1 = y == event ? failed_of(t, g) : g, g0 = y == event ? sound_of(t, g) : g;
-    u32 below = 0;
-    u32 failed = ask(m, z, &f1, &g1, &below);
-    if (failed == FULL && (failed = join_nodes(t, m, z, f1, g1, below)) == FULL) return FULL;
-    u32 sound = ask(m, z, &f0, &g0, &below);
-    if (sound == FULL && (sound = join_nodes(t, m, z, f0, g0, below)) == FULL) return FULL;
-    u32 result = failed == sound ? failed : find_or_add(t, event, failed, sound);
-    if (result != FULL) remember(m, place, z + 1, f, g, result);
+    const u32 *a = s->triples + 3 * (u64)f - 6, *b = s->triples + 3 * (u64)g - 6;
+    u32 x = a[0], y = b[0], event = x, f1 = f, f0 = f, g1 = g, g0 = g, below = 0;
+    if (x <= y) f1 = a[1], f0 = a[2];
+    if (y <= x) g1 = b[1], g0 = b[2], event = y;
+    u32 failed = ask(s, z, &f1, &g1, &below);
+    if (failed == FULL && (failed = join_nodes(s, z, f1, g1, below)) == FULL) return FULL;
+    u32 sound = ask(s, z, &f0, &g0, &below);
+    if (sound == FULL && (sound = join_nodes(s, z, f0, g0, below)) == FULL) return FULL;
+    u32 result = failed == sound ? failed : find_or_add(s, event, failed, sound);
+    if (result != FULL) remember(s, place, z + 1, f, g, result);
     return result;
 }
 
-static inline u32 join(Table *t, Memo *m, u32 z, u32 f, u32 g)
+static inline u32 join(Store *s, u32 z, u32 f, u32 g)
 {
     u32 place = 0;
-    u32 known = ask(m, z, &f, &g, &place);
-    return known != FULL ? known : join_nodes(t, m, z, f, g, place);
+    u32 known = ask(s, z, &f, &g, &place);
+    return known != FULL ? known : join_nodes(s, z, f, g, place);
 }
 
 /* row[j] is at-least j of the inputs from i on; only the pairs that the rule reaches are made:
    j from k less the inputs before i, and no more than are left. */
-static u32 at_least(Table *t, Memo *m, u32 k, u32 n, const u32 *operands)
+static u32 at_least(Store *s, u32 k, u32 n, const u32 *operands)
 {
-    u32 row[66] = {1};
+    u32 row[MATTICKLET_GATE_INPUTS + 1] = {1};
     for (u32 i = n; i-- > 0;) {
         u32 left = n - i;
         u32 most = k < left ? k : left;
         u32 least = k > i ? k - i : 1;
         for (u32 j = most; j >= least; j--) {
-            u32 conjunction = join(t, m, 0, operands[i], row[j - 1]);
-            if (conjunction == FULL) return FULL;
-            row[j] = join(t, m, 1, conjunction, row[j]);
+            u32 both = join(s, 0, operands[i], row[j - 1]);
+            if (both == FULL) return FULL;
+            row[j] = join(s, 1, both, row[j]);
             if (row[j] == FULL) return FULL;
         }
     }
     return row[k];
 }
 
-static void clear(u32 *area, u64 length) { memset(area, 0, 4 * length); }
-
-/* Gate by gate; answers 0, or 10 when the table is too small. */
-NOINLINE int build(const Tree *tree, Table *t, Memo *m, u32 *gate_nodes)
+static u32 gate_node(Store *s, const u32 *gates, u32 kind, u32 k, u32 n, const uint16_t *input)
 {
-    clear(t->triples, 3 * (u64)t->capacity);
-    clear(t->heads, t->area);
-    clear(t->next, t->area);
-    clear(m->quadruples, 4 * (u64)m->places);
-    t->count = 0;
-    const u32 *input = tree->input;
-    for (u32 g = 0; g < tree->gates; g++) {
-        u32 operands[64], n = tree->n[g];
-        operands[0] = 0;
-        for (u32 i = 0; i < n; i++) {
-            u32 number = input[i];
-            operands[i] = number < 256 ? find_or_add(t, number, 1, 0) : gate_nodes[number - 256];
-            if (operands[i] == FULL) return 10;
-        }
-        u32 node = operands[0];
-        if (tree->kind[g] == AND || tree->kind[g] == OR)
-            for (u32 i = 1; i < n && node != FULL; i++) node = join(t, m, tree->kind[g] - AND, node, operands[i]);
-        else
-            node = at_least(t, m, tree->k[g], n, operands);
-        if (node == FULL) return 10;
-        gate_nodes[g] = node;
-        input += n;
+    u32 operands[MATTICKLET_GATE_INPUTS] = {0};
+    for (u32 i = 0; i < n; i++) {
+        operands[i] = input[i] < 256 ? find_or_add(s, input[i], 1, 0) : gates[input[i] - 256];
+        if (operands[i] == FULL) return FULL;
     }
-    clear(m->quadruples, 4 * (u64)m->places);
-    return 0;
+    if (kind != AND && kind != OR) return at_least(s, k, n, operands);
+    u32 node = operands[0];
+    for (u32 i = 1; i < n && node != FULL; i++) node = join(s, kind - AND, node, operands[i]);
+    return node;
 }
 
-/* The leaves and the memo; G's earlier events are passed over first. */
-static inline u32 ask_without(const Table *c, const Table *t, const Memo *m, u32 f, u32 *g, u32 *place)
+static inline void clear(u32 *area, size_t length) { memset(area, 0, 4 * length); }
+
+/* Gate by gate; answers the root's node. */
+static u32 build(const Tree *tree, Store *s, u32 *gates)
 {
-    if (f < 2) return *g == 1 ? 0 : f;
-    u32 event = event_of(c, f);
-    while (*g >= 2 && event_of(t, *g) < event) *g = sound_of(t, *g);
-    if (*g < 2) return *g == 1 ? 0 : f;
-    return remembered(m, MEMO_WITHOUT, f, *g, place);
+    const uint16_t *input = tree->input;
+    u32 node = FULL;
+    for (u32 g = 0; g < tree->gates; g++) {
+        node = gate_node(s, gates, tree->kind[g], tree->k[g], tree->n[g], input);
+        if (node == FULL) return FULL;
+        gates[g] = node;
+        input += tree->n[g];
+    }
+    return node;
 }
 
-/* F is a node of the cut table, G one of the node table, with F's event not later. */
-static u32 without_nodes(Table *c, const Table *t, Memo *m, u32 f, u32 g, u32 place)
+/* The leaves and the memo. */
+static inline u32 ask_without(const Store *s, u32 f, u32 g, u32 *place)
 {
-    u32 event = event_of(c, f);
-    int same = event_of(t, g) == event;
-    u32 g1 = same ? failed_of(t, g) : g, g0 = same ? sound_of(t, g) : g;
-    u32 f1 = failed_of(c, f), f0 = sound_of(c, f), below = 0;
-    u32 failed = ask_without(c, t, m, f1, &g1, &below);
-    if (failed == FULL && (failed = without_nodes(c, t, m, f1, g1, below)) == FULL) return FULL;
-    u32 sound = ask_without(c, t, m, f0, &g0, &below);
-    if (sound == FULL && (sound = without_nodes(c, t, m, f0, g0, below)) == FULL) return FULL;
-    u32 result = failed == 0 ? sound : find_or_add(c, event, failed, sound);
-    if (result != FULL) remember(m, place, MEMO_WITHOUT, f, g, result);
+    if (f < 2 || g < 2) return g == 1 ? 0 : f;
+    return remembered(s, WITHOUT, f, g, place);
+}
+
+/* F is a node of the cut table, G one of the node table, whose events before F's are passed over. */
+static u32 without_nodes(Store *s, u32 f, u32 g, u32 place)
+{
+    const u32 *a = s->triples + 3 * (u64)f - 6;
+    u32 event = a[0], f1 = a[1], f0 = a[2], g1, g0, below = 0;
+    for (u32 h = g;;) {
+        const u32 *b = s->nodes + 3 * (u64)h - 6;
+        if (b[0] == event) {
+            g1 = b[1], g0 = b[2];
+            break;
+        }
+        if (b[0] < event && b[2] >= 2) {
+            h = b[2];
+            continue;
+        }
+        g1 = g0 = b[0] < event ? b[2] : h;
+        break;
+    }
+    u32 failed = ask_without(s, f1, g1, &below);
+    if (failed == FULL && (failed = without_nodes(s, f1, g1, below)) == FULL) return FULL;
+    u32 sound = ask_without(s, f0, g0, &below);
+    if (sound == FULL && (sound = without_nodes(s, f0, g0, below)) == FULL) return FULL;
+    u32 result = failed == 0 ? sound : find_or_add(s, event, failed, sound);
+    if (result != FULL) remember(s, place, WITHOUT, f, g, result);
     return result;
 }
 
 /* Marks what the root reaches going down the numbers, then goes up: one without and one find-or-add for
-   each marked node. Answers 0, or 11 when the table is too small. */
-NOINLINE int cuts(const Table *t, u32 root, Table *c, Memo *m, u32 *marks, u32 *cuts_of, u32 *cut_root)
+   each marked node. */
+static u32 cuts_of(Store *s, u32 root, u32 *marks, u32 *own)
 {
-    clear(c->triples, 3 * (u64)c->capacity);
-    clear(c->heads, c->area);
-    clear(c->next, c->area);
-    clear(m->quadruples, 4 * (u64)m->places);
-    clear(marks, c->area);
-    c->count = 0;
     marks[root] = 1;
-    for (u32 node = t->count + 1; node >= 2; node--)
-        if (marks[node]) marks[failed_of(t, node)] = marks[sound_of(t, node)] = 1;
-    cuts_of[0] = 0;
-    cuts_of[1] = 1;
-    for (u32 node = 2; node < t->count + 2; node++) {
+    for (u32 node = root; node >= 2; node--)
+        if (marks[node]) marks[failed_of(s->nodes, node)] = marks[sound_of(s->nodes, node)] = 1;
+    own[0] = 0;
+    own[1] = 1;
+    for (u32 node = 2; node <= root; node++) {
         if (!marks[node]) continue;
-        u32 g = sound_of(t, node), f = cuts_of[failed_of(t, node)], place = 0;
-        u32 failed = ask_without(c, t, m, f, &g, &place);
-        if (failed == FULL && (failed = without_nodes(c, t, m, f, g, place)) == FULL) return 11;
-        u32 sound = cuts_of[sound_of(t, node)];
-        u32 made = failed == 0 ? sound : find_or_add(c, event_of(t, node), failed, sound);
-        if (made == FULL) return 11;
-        cuts_of[node] = made;
+        const u32 *triple = s->nodes + 3 * (u64)node - 6;
+        u32 g = triple[2], f = own[triple[1]], sound = own[g], place = 0;
+        u32 failed = ask_without(s, f, g, &place);
+        if (failed == FULL && (failed = without_nodes(s, f, g, place)) == FULL) return FULL;
+        u32 made = failed == 0 ? sound : find_or_add(s, triple[0], failed, sound);
+        if (made == FULL) return FULL;
+        own[node] = made;
     }
-    *cut_root = cuts_of[root];
-    clear(c->heads, c->area);
-    clear(c->next, c->area);
-    clear(m->quadruples, 4 * (u64)m->places);
-    clear(marks, c->area);
-    clear(cuts_of, c->area);
-    return 0;
+    return own[root];
+}
+
+static void decode(const uint8_t *b, Tree *tree)
+{
+    tree->events = tree->gates = 0;
+    for (u32 inputs = 0;;) {
+        switch (b[0]) {
+        case 1: tree->events++, b += 5; break;
+        case 2: case 3: tree->kind[tree->gates] = b[0], tree->n[tree->gates++] = b[1], b += 2; break;
+        case 4: tree->kind[tree->gates] = 4, tree->k[tree->gates] = b[1], tree->n[tree->gates++] = b[2], b += 3; break;
+        case 5: tree->input[inputs++] = b[1], b += 2; break;
+        case 6: tree->input[inputs++] = (uint16_t)(256 + (b[1] | b[2] << 8)), b += 3; break;
+        default: return;
+        }
+    }
+}
+
+void matticklet_analyse(const uint8_t *bytes, size_t bytes_length, u32 *nodes, size_t nodes_length, u32 *cuts,
+                        size_t cuts_length, u32 *gates, size_t gates_length, u32 *memo, size_t memo_length, u32 *heads,
+                        size_t heads_length, u32 *next, size_t next_length, u32 *marks, size_t marks_length, u32 *own,
+                        size_t own_length, struct matticklet_analysis *answer)
+{
+    Tree tree;
+    (void)bytes_length;
+    *answer = (struct matticklet_analysis){0};
+    decode(bytes, &tree);
+
+    clear(nodes, nodes_length);
+    clear(heads, heads_length);
+    clear(memo, memo_length);
+    clear(gates, gates_length);
+    u32 one[4] = {0}; /* a memo of no place gives way to one of a single place */
+    Store s = {nodes, heads, next, memo, 0, (u32)(nodes_length / 3), (u32)heads_length, (u32)(memo_length / 4), NULL};
+    if (s.places == 0) s.memo = one, s.places = 1;
+    u32 root = build(&tree, &s, gates);
+
+    u32 count = s.count, cut_root = FULL;
+    clear(cuts, cuts_length);
+    clear(heads, heads_length);
+    clear(memo, memo_length);
+    clear(marks, marks_length);
+    if (root != FULL) {
+        Store c = s;
+        c.triples = cuts;
+        c.count = 0;
+        c.capacity = (u32)(cuts_length / 3);
+        c.nodes = nodes;
+        clear(one, 4);
+        cut_root = cuts_of(&c, root, marks, own);
+        answer->cut_nodes = c.count;
+        clear(memo, memo_length);
+        clear(heads, heads_length);
+        clear(marks, marks_length);
+    }
+    clear(next, next_length);
+    clear(own, own_length);
+    if (cut_root == FULL) {
+        clear(nodes, nodes_length);
+        clear(cuts, cuts_length);
+        clear(gates, gates_length);
+        *answer = (struct matticklet_analysis){.number = root == FULL ? 10 : 11};
+        return;
+    }
+    answer->nodes = count;
+    answer->root = root;
+    answer->cut_root = cut_root;
 }
 
 /* Number 12: range, numbering, rising events, and the rule of the diagram's kind. */
-static int is_diagram(const Table *t, u32 events, u32 root, int of_cuts)
+static inline int is_diagram(const u32 *triples, size_t length, size_t events, size_t count, size_t root, int of_cuts)
 {
-    if (events < 1 || events > 256 || t->count > t->capacity || root >= t->count + 2) return 0;
-    for (u32 node = 2; node < t->count + 2; node++) {
-        u32 event = event_of(t, node), failed = failed_of(t, node), sound = sound_of(t, node);
+    if (events < 1 || events > MATTICKLET_EVENTS || length % 3 != 0 || length > MATTICKLET_TABLE_NUMBERS) return 0;
+    if (count > length / 3 || root >= count + 2) return 0;
+    for (u32 node = 2; node < count + 2; node++) {
+        const u32 *triple = triples + 3 * (u64)node - 6;
+        u32 event = triple[0], failed = triple[1], sound = triple[2];
         if (event >= events || failed >= node || sound >= node) return 0;
-        if (failed >= 2 && event_of(t, failed) <= event) return 0;
-        if (sound >= 2 && event_of(t, sound) <= event) return 0;
+        if (failed >= 2 && event_of(triples, failed) <= event) return 0;
+        if (sound >= 2 && event_of(triples, sound) <= event) return 0;
         if (of_cuts ? failed == 0 : failed == sound) return 0;
     }
     return 1;
 }
-
-typedef struct {
-    u32 number;
-    u64 written, used;
-    u64 last[4];
-    int finished;
-} Listing;
-
-static inline int holds(const u64 set[4], u32 event) { return set[event / 64] >> (event % 64) & 1; }
 
 /* The lowest member from `from` on, or 256. */
 static inline u32 next_member(const u64 set[4], u32 from)
@@ -291,99 +331,124 @@ static inline u32 next_member(const u64 set[4], u32 from)
     return 64 * word + (u32)__builtin_ctzll(rest);
 }
 
-/* The path holds the nodes left by their failed branch: the members of the cut at hand. */
-typedef struct {
-    const Table *t;
-    u32 path[256];
-    u32 depth;
-} Path;
-
-static inline int descend(Path *p, u32 node)
+/* The path holds the nodes left by their failed branch: the members of the cut at hand. `top` is its end.
+   Going down failed branches always leads to the leaf 1. */
+static inline u32 *descend(const u32 *triples, u32 *top, u32 node)
 {
-    for (; node >= 2; node = failed_of(p->t, node)) p->path[p->depth++] = node;
-    return node == 1;
+    for (; node >= 2; node = failed_of(triples, node)) *top++ = node;
+    return top;
 }
 
-static inline int following(Path *p)
+/* The path of the next cut, or a null pointer. */
+static inline u32 *following(const u32 *triples, u32 *path, u32 *top)
 {
-    while (p->depth > 0) {
-        u32 sound = sound_of(p->t, p->path[--p->depth]);
-        if (sound != 0) return descend(p, sound);
+    while (top > path) {
+        u32 sound = sound_of(triples, *--top);
+        if (sound != 0) return descend(triples, top, sound);
     }
-    return 0;
+    return NULL;
 }
 
 /* The first cut after the set. */
-static int seek(Path *p, u32 node, const u64 after[4])
+static u32 *seek(const u32 *triples, u32 *path, u32 node, const u64 after[4])
 {
+    u32 *top = path;
     u32 decided = 0;
     while (node >= 2) {
-        u32 event = event_of(p->t, node);
+        u32 event = event_of(triples, node);
         u32 member = next_member(after, decided);
-        if (member < event) return descend(p, node);
+        if (member < event) return descend(triples, top, node);
         decided = event + 1;
         if (member == event) {
-            p->path[p->depth++] = node;
-            node = failed_of(p->t, node);
+            *top++ = node;
+            node = failed_of(triples, node);
         } else
-            node = sound_of(p->t, node);
+            node = sound_of(triples, node);
     }
-    if (node == 1 && next_member(after, decided) < 256) return 1;
-    return following(p);
+    if (node == 1 && next_member(after, decided) < 256) return top;
+    return following(triples, path, top);
 }
 
-/* As many whole cuts as fit after the start; a null start is the beginning. */
-NOINLINE Listing list(const Table *t, u32 events, u32 root, const u64 *after, unsigned char *room, u64 length)
+/* The set of a cut's bytes. */
+static void set_of(const uint8_t *cut, u64 set[4])
 {
-    Listing answer = {0};
-    if (!is_diagram(t, events, root, 1)) {
-        answer.number = 12;
-        return answer;
+    memset(set, 0, 4 * sizeof set[0]);
+    for (; cut[0] == MATTICKLET_MEMBER; cut += 2) set[cut[1] / 64] |= (u64)1 << (cut[1] % 64);
+}
+
+void matticklet_list(const u32 *cuts, size_t cuts_length, size_t events, size_t count, size_t root, bool begin,
+                     const u64 after[4], uint8_t *room, size_t room_length, struct matticklet_listing *answer)
+{
+    *answer = (struct matticklet_listing){0};
+    if (!is_diagram(cuts, cuts_length, events, count, root, 1)) {
+        answer->number = 12;
+        return;
     }
-    if (after && next_member(after, events) < 256) {
-        answer.number = 13;
-        return answer;
+    if (!begin && next_member(after, (u32)events) < 256) {
+        answer->number = 13;
+        return;
     }
-    Path p = {.t = t, .depth = 0};
-    int follows = after ? seek(&p, root, after) : descend(&p, root);
-    if (!follows && after) memcpy(answer.last, after, sizeof answer.last);
-    while (follows && 2 * (u64)p.depth + 1 <= length - answer.used) {
-        memset(answer.last, 0, sizeof answer.last);
-        unsigned char *cut = room + answer.used;
-        for (u32 i = 0; i < p.depth; i++) {
-            u32 event = event_of(t, p.path[i]);
-            cut[2 * i] = 0x21;
-            cut[2 * i + 1] = (unsigned char)event;
-            answer.last[event / 64] |= (u64)1 << (event % 64);
+    u32 path[MATTICKLET_EVENTS], *top;
+    if (!begin)
+        top = seek(cuts, path, (u32)root, after);
+    else
+        top = root == 0 ? NULL : descend(cuts, path, (u32)root);
+    uint8_t *cut = room, *end = room, *limit = room + room_length;
+    u64 written = 0;
+    while (top && 2 * (top - path) + 1 <= limit - end) {
+        cut = end;
+        for (const u32 *node = path; node < top; node++, end += 2) {
+            end[0] = MATTICKLET_MEMBER;
+            end[1] = (uint8_t)event_of(cuts, *node);
         }
-        cut[2 * p.depth] = 0x22;
-        answer.used += 2 * (u64)p.depth + 1;
-        answer.written++;
-        follows = following(&p);
+        *end++ = MATTICKLET_CUT_END;
+        written++;
+        top = following(cuts, path, top);
     }
-    if (follows && answer.written == 0) answer.number = 14;
-    answer.finished = !follows;
-    return answer;
+    if (top && written == 0) {
+        answer->number = 14;
+        return;
+    }
+    answer->cuts = written;
+    answer->used = (u64)(end - room);
+    answer->finished = !top;
+    if (written > 0)
+        set_of(cut, answer->last);
+    else if (!begin)
+        memcpy(answer->last, after, sizeof answer->last);
 }
 
-/* One pass upwards; low and high of every node in the two areas. Order 12, 9, 7. */
-NOINLINE int bracket(const Table *t, u32 events, u32 root, const u32 *chance, u32 chances, u32 *low, u32 *high, u32 top[2])
+static inline u32 mixed(u64 a, u64 failed, u64 sound, u64 round) { return (u32)((a * failed + (D - a) * sound + round) / D); }
+
+/* One pass upwards; low and high of every node in the two areas, of the leaves beside them. */
+static inline u32 bound_of(const u32 *area, u32 node) { return node < 2 ? node * D : area[node - 2]; }
+
+void matticklet_bracket(const u32 *nodes, size_t nodes_length, size_t events, size_t count, size_t root,
+                        const u32 *chances, size_t chances_length, u32 *lows, size_t lows_length, u32 *highs,
+                        size_t highs_length, struct matticklet_ends *answer)
 {
-    if (!is_diagram(t, events, root, 0)) return 12;
-    if (chances < events) return 9;
-    for (u32 e = 0; e < events; e++)
-        if (chance[e] > D) return 7;
-    low[0] = high[0] = 0;
-    low[1] = high[1] = D;
-    for (u32 node = 2; node < t->count + 2; node++) {
-        u64 a = chance[event_of(t, node)];
-        u32 failed = failed_of(t, node), sound = sound_of(t, node);
-        low[node] = (u32)((a * low[failed] + (D - a) * low[sound]) / D);
-        high[node] = (u32)((a * high[failed] + (D - a) * high[sound] + (D - 1)) / D);
+    *answer = (struct matticklet_ends){0};
+    if (!is_diagram(nodes, nodes_length, events, count, root, 0)) {
+        answer->number = 12;
+        return;
     }
-    top[0] = low[root];
-    top[1] = high[root];
-    clear(low, t->area);
-    clear(high, t->area);
-    return 0;
+    if (chances_length < events || lows_length < nodes_length / 3 || highs_length < nodes_length / 3) {
+        answer->number = 9;
+        return;
+    }
+    for (size_t e = 0; e < events; e++)
+        if (chances[e] > D) {
+            answer->number = 7;
+            return;
+        }
+    for (u32 k = 0; k < count; k++) {
+        const u32 *triple = nodes + 3 * (u64)k;
+        u32 a = chances[triple[0]], failed = triple[1], sound = triple[2];
+        lows[k] = mixed(a, bound_of(lows, failed), bound_of(lows, sound), 0);
+        highs[k] = mixed(a, bound_of(highs, failed), bound_of(highs, sound), D - 1);
+    }
+    answer->low = bound_of(lows, (u32)root);
+    answer->high = bound_of(highs, (u32)root);
+    clear(lows, lows_length);
+    clear(highs, highs_length);
 }

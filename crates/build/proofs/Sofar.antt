@@ -18,6 +18,7 @@ use Rattle.algebra.proofs.Lists.{in-left, in-right}
 use Rattle.tables.specs.Table.{den}
 use Rattle.tables.proofs.Den.{den-0}
 use Rattle.store.specs.Building.{PartOf, Found, Step, Stops, Only}
+use Rattle.store.specs.Memo.{Places}
 use Rattle.store.proofs.Denotes.{found-grown}
 use Rattle.store.proofs.Building.{step-more, only-none, only-step, only-more, lacks-more, tidy-none}
 use Rattle.store.proofs.Counting.{nodes-done, nodes-full}
@@ -43,9 +44,9 @@ unfolding gateDiagrams
 no-gates = refl
 
 -- in memory that was cleared; the links may hold anything
-pub sofar-none : (t : List Gate) (n h m l : ℕ) (X : List ℕ) → n ≤ mostNumbers → n ≤ 3 * length X → 1 ≤ h → Sofar t 0 (replicate l 0) (replicate n 0) (replicate h 0) X (replicate m 0) 0
-sofar-none t n h m l X a b d = record {
-  held = record { store = store-cleared n h X a b d; tidy = tidy-none (replicate n 0); memo = memo-cleared m };
+pub sofar-none : (t : List Gate) (n h : ℕ) (M : List ℕ) (l : ℕ) (X : List ℕ) → n ≤ mostNumbers → n ≤ 3 * length X → 1 ≤ h → Places M → Sofar t 0 (replicate l 0) (replicate n 0) (replicate h 0) X (replicate (length M) 0) 0
+sofar-none t n h M l X a b d e = record {
+  held = record { store = store-cleared n h X a b d; tidy = tidy-none (replicate n 0); memo = memo-cleared M e };
   only = only-none;
   all = subst (All (replicate n 0) 0) (sym no-steps) all-none;
   list = λ i. subst (λ gs. Found (replicate n 0) 0 (getD gs i (leaf false)) (getD (replicate l 0) i 0)) (sym no-gates) (subst (Found (replicate n 0) 0 (leaf false)) (sym (zero-at l i)) (found-0 (replicate n 0) 0));
@@ -201,12 +202,12 @@ module _ {K L S I G T H X M : List ℕ} where
 -- ---- whatever the memory held at entry
 
 pub sofar-cleared : (s : List Gate) (M₀ G₀ : List ℕ) {T₀ H₀ T H X M G : List ℕ} → Areas T₀ H₀ X
-    → T ≡ replicate (length T₀) 0 → H ≡ replicate (length H₀) 0 → M ≡ replicate (length M₀) 0 → G ≡ replicate (length G₀) 0 → Sofar s 0 G T H X M 0
-sofar-cleared s M₀ G₀ {T₀} {H₀} {T} {H} {X} {M} {G} a p q r e =
+    → T ≡ replicate (length T₀) 0 → H ≡ replicate (length H₀) 0 → M ≡ replicate (length M₀) 0 → G ≡ replicate (length G₀) 0 → Places M₀ → Sofar s 0 G T H X M 0
+sofar-cleared s M₀ G₀ {T₀} {H₀} {T} {H} {X} {M} {G} a p q r e l =
     subst (λ T. Sofar s 0 G T H X M 0) (sym p) (subst (λ H. Sofar s 0 G (replicate (length T₀) 0) H X M 0) (sym q)
     (subst (λ M. Sofar s 0 G (replicate (length T₀) 0) (replicate (length H₀) 0) X M 0) (sym r)
     (subst (λ G. Sofar s 0 G (replicate (length T₀) 0) (replicate (length H₀) 0) X (replicate (length M₀) 0) 0) (sym e)
-    (sofar-none s (length T₀) (length H₀) (length M₀) (length G₀) X (a .small) (a .linked) (a .chains)))))
+    (sofar-none s (length T₀) (length H₀) M₀ (length G₀) X (a .small) (a .linked) (a .chains) l))))
 
 pub same-room : (s : List Gate) (G T H X : List ℕ) (r : Finish) {n m : ℕ} → n ≡ m → Finishes s (n / 3) G T H X r → Finishes s (m / 3) G T H X r
 same-room s G T H X r e f = subst (λ n. Finishes s (n / 3) G T H X r) e f

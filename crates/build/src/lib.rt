@@ -15,6 +15,7 @@ ghost use Prim.Native.Nat.{_+_, _/_, _<_, _≤_};
 ghost use lib.ListN.{length};
 ghost use Rattle.paper.specs.Limits.{limits};
 ghost use Rattle.tables.specs.Table.{den};
+ghost use Rattle.store.specs.Memo.{Places};
 ghost use Rattle.joins.specs.Joins.{bit};
 ghost use Rattle.build.specs.Rules.{joinAllD, joinStepsD, valueD, stepsD, kindD, kindStepsD};
 ghost use Rattle.paper.specs.Flat.{inputOf, gateOf, gatesOf};
@@ -211,7 +212,43 @@ fn build_gates(
     Finish::Complete(root, count)
 }
 
-// Builds the diagrams of all gates of a tree. What the memory holds at entry does not matter.
+// The diagrams of all gates of a tree, over whatever the lent memory holds.
+fn build_over(
+    nodes: &mut [u32],
+    heads: &mut [u32],
+    next: &mut [u32],
+    memo: &mut [u32],
+    gates: &mut [u32],
+    kinds: &[u8],
+    leasts: &[u8],
+    sizes: &[u8],
+    inputs: &[u16],
+) -> Finish
+    requires { ⌜ Areas (now nodes) (now heads) (now next) ⌝ }
+    requires { ⌜ Plan (now kinds) (now leasts) (now sizes) (now inputs) ⌝ }
+    requires { ⌜ length (now sizes) ≤ length (now gates) ⌝ }
+    requires { ⌜ Places (now memo) ⌝ }
+    ensures { λ r. ⌜ Finishes (gatesOf (now (kinds .entry)) (now (leasts .entry)) 0 (now (sizes .entry)) (now (inputs .entry))) (length (now (nodes .entry)) / 3) (now (gates .exit)) (now (nodes .exit)) (now (heads .exit)) (now (next .exit)) r ⌝ }
+{
+    clear(nodes);
+    clear(heads);
+    clear(memo);
+    clear(gates);
+    build_gates(
+        nodes,
+        heads,
+        next,
+        memo,
+        gates,
+        kinds,
+        leasts,
+        sizes,
+        inputs,
+    )
+}
+
+// Builds the diagrams of all gates of a tree. What the memory holds at entry does not matter. A memo of no place gives way to one of a single place, so
+// that the recursion need not ask whether there is one.
 pub fn build(
     nodes: &mut [u32],
     heads: &mut [u32],
@@ -228,15 +265,26 @@ pub fn build(
     requires { ⌜ length (now sizes) ≤ length (now gates) ⌝ }
     ensures { λ r. ⌜ Finishes (gatesOf (now (kinds .entry)) (now (leasts .entry)) 0 (now (sizes .entry)) (now (inputs .entry))) (length (now (nodes .entry)) / 3) (now (gates .exit)) (now (nodes .exit)) (now (heads .exit)) (now (next .exit)) r ⌝ }
 {
-    clear(nodes);
-    clear(heads);
-    clear(memo);
-    clear(gates);
-    build_gates(
+    let n = store::used(memo.len());
+    if n < 4 {
+        let mut one = [0u32; 4];
+        return build_over(
+            nodes,
+            heads,
+            next,
+            &mut one,
+            gates,
+            kinds,
+            leasts,
+            sizes,
+            inputs,
+        );
+    }
+    build_over(
         nodes,
         heads,
         next,
-        memo,
+        &mut memo[..n],
         gates,
         kinds,
         leasts,

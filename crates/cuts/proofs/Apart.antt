@@ -9,6 +9,7 @@ use borrow.Author.Tests.{lt-ltb, le-ltb}
 use Rattle.paper.specs.Limits.{limits}
 use Rattle.paper.specs.Diagrams.{Diagram, leaf, node, Ordered}
 use Rattle.algebra.specs.Families.{mkZ, withoutD}
+use Rattle.algebra.proofs.Base.{widen}
 use Rattle.tables.specs.Table.{eventOf, failedOf, soundOf, den}
 use Rattle.tables.proofs.Den.{den-0, den-1, den-node}
 use Rattle.store.specs.Store.{Store}
@@ -17,7 +18,8 @@ use Rattle.store.specs.declared.Known.{Known}
 use Rattle.store.specs.declared.Known.the-variants.{Node, Unknown}
 use Rattle.store.proofs.Memory.{memo-hit}
 use Rattle.cuts.specs.Reading.{Readable, top}
-use Rattle.cuts.specs.Without.{Family, Answered, Asked, Parted}
+use Rattle.cuts.specs.Without.{Family, Answered, Asked, Passed, Parted}
+use Rattle.cuts.specs.declared.Parts.{Parts}
 
 -- ---- a leaf
 
@@ -77,8 +79,49 @@ module _ (e : ℕ) (f s : Diagram) (x : ℕ) (g h : Diagram) where
   pub without-later : x < e → withoutD (node e f s) (node x g h) ≡ mkZ x (withoutD (leaf false) (leaf false)) (withoutD (node e f s) h)
   without-later l = rw (le-ltb e x (omega arith), lt-ltb x e l) refl
 
+  pub without-past : x < e → withoutD (node e f s) (node x g h) ≡ withoutD (node e f s) h
+  without-past l = rw (le-ltb e x (omega arith), lt-ltb x e l) refl
+
   pub without-equal : e ≤ x → x ≤ e → withoutD (node e f s) (node x g h) ≡ mkZ e (withoutD f g) (withoutD s h)
   without-equal l m = rw (le-ltb e x m, le-ltb x e l)
+
+-- ---- past the events that no set has
+
+pub past-none : {T : List ℕ} {e g : ℕ} → Readable T g → 2 ≤ g → Passed T e g g
+past-none r l = record { node-h = l; low = omega arith; function = r; rise = omega arith; same = λ f s. refl }
+
+-- one node further
+pub past-more : {T : List ℕ} {e g h : ℕ} → Passed T e g h → eventOf T h < e → 2 ≤ soundOf T h → Passed T e g (soundOf T h)
+past-more {T} {e} {g} {h} p l n =
+    let held = p .function .held in
+    let w = held .within in
+    let two = p .node-h in
+    let low = held .lower .sound (h - 2) (omega arith) in
+    let small = p .low in
+    let up = p .rise in
+    let d : den T h ≡ node (eventOf T h) (den T (failedOf T h)) (den T (soundOf T h)) = den-node (held .lower) h two w in
+    let o : Ordered 0 (limits .events) (node (eventOf T h) (den T (failedOf T h)) (den T (soundOf T h))) = subst (Ordered 0 (limits .events)) d (p .function .ordered) in
+    let s : den T (soundOf T h) ≡ node (eventOf T (soundOf T h)) (den T (failedOf T (soundOf T h))) (den T (soundOf T (soundOf T h))) = den-node (held .lower) (soundOf T h) n (omega arith) in
+    let os : Ordered (suc (eventOf T h)) (limits .events) (node (eventOf T (soundOf T h)) (den T (failedOf T (soundOf T h))) (den T (soundOf T (soundOf T h)))) = subst (Ordered (suc (eventOf T h)) (limits .events)) s (o .3) in
+    let top-h : top (den T h) ≡ eventOf T h = ap top d in
+    let top-s : top (den T (soundOf T h)) ≡ eventOf T (soundOf T h) = ap top s in
+    let later : eventOf T h < eventOf T (soundOf T h) = os .0 in
+    record {
+      node-h = n;
+      low = omega arith;
+      function = record {
+        held = record { count = held .count; fits = held .fits; lower = held .lower; within = omega arith };
+        ordered = widen (suc (eventOf T h)) 0 (limits .events) (den T (soundOf T h)) (omega arith) (o .3);
+      };
+      rise = omega arith;
+      same = λ a b. p .same a b ∙ ap (withoutD (node e a b)) d ∙ without-past e a b (eventOf T h) (den T (failedOf T h)) (den T (soundOf T h)) l;
+    }
+
+pub past-less : {T : List ℕ} {e g h : ℕ} → Passed T e g h → soundOf T h < h
+past-less {h = h} p =
+    let w = p .function .held .within in
+    let two = p .node-h in
+    let low = p .function .held .lower .sound (h - 2) (omega arith) in omega arith
 
 -- ---- of two tables
 
@@ -171,3 +214,26 @@ module _ {C H X : List ℕ} {d : ℕ} {T : List ℕ} {f g : ℕ} (s : Store C H 
         g0-later = subst (λ x. Ordered (suc x) (limits .events) (den T (soundOf T g))) q (og .3);
         splits = rw (df, dg) (without-equal (eventOf C f) (den C (failedOf C f)) (den C (soundOf C f)) (eventOf T g) (den T (failedOf T g)) (den T (soundOf T g)) l m);
       }
+
+-- what is taken apart at h is g taken apart
+pub part-past : {C H X : List ℕ} {d : ℕ} {T : List ℕ} {f g h : ℕ} {p : Parts} → Store C H X d → Family C d f → 2 ≤ f → Passed T (eventOf C f) g h → Parted C T f h p → Parted C T f g p
+part-past {C} {T = T} {f = f} {g = g} {h = h} {p = p} s F f2 q k =
+    let low = q .low in
+    let up = q .rise in
+    let a = k .first in
+    let g1 = k .g1-low in
+    let g0 = k .g0-low in
+    let df = den-node (s .lower) f f2 (F .within) in
+    record {
+      event = k .event;
+      first = omega arith;
+      f1-low = k .f1-low;
+      g1-low = omega arith;
+      f0-low = k .f0-low;
+      g0-low = omega arith;
+      f1-later = k .f1-later;
+      g1-later = k .g1-later;
+      f0-later = k .f0-later;
+      g0-later = k .g0-later;
+      splits = ap (λ D. withoutD D (den T g)) df ∙ q .same (den C (failedOf C f)) (den C (soundOf C f)) ∙ ap (λ D. withoutD D (den T h)) (sym df) ∙ k .splits;
+    }

@@ -73,7 +73,7 @@ top-later : (e : ℕ) (D : Diagram) → e < limits .events → Ordered (suc e) (
 top-later e (leaf b) l o = l
 top-later e (node x f s) l o = o .0
 
-pub remain-less : (F G F′ G′ : Diagram) (e : ℕ) {t : ℕ} → e < limits .events → min (top F) (top G) ≡ e → Ordered (suc e) (limits .events) F′ → Ordered (suc e) (limits .events) G′
+pub remain-less : (F G F′ G′ : Diagram) (e : ℕ) {t : ℕ} → e < limits .events → min (top F) (top G) ≤ e → Ordered (suc e) (limits .events) F′ → Ordered (suc e) (limits .events) G′
     → remain F G ≡ t → remain F′ G′ < t
 remain-less F G F′ G′ e l q a b r =
     let x = top-later e F′ l a in

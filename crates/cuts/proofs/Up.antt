@@ -19,7 +19,7 @@ use Rattle.tables.specs.Table.{failedOf, soundOf, den}
 use Rattle.tables.proofs.Den.{den-0, den-1}
 use Rattle.store.specs.Store.{Store}
 use Rattle.store.specs.Building.{Part, PartOf, Found, Step, Stops, Only}
-use Rattle.store.specs.Memo.{Memo}
+use Rattle.store.specs.Memo.{Memo, Places}
 use Rattle.store.proofs.Denotes.{found-grown, found-whole, den-is-node}
 use Rattle.store.proofs.Building.{step-more, lacks-more, only-none, only-step}
 use Rattle.store.proofs.Zeros.{store-cleared, memo-cleared}
@@ -44,12 +44,12 @@ room-marks q r = record { small = r .small; linked = r .linked; chains = r .chai
 -- ---- the first two numbers are the leaves
 
 module _ {T K : List ℕ} {root : ℕ} {C₀ H₀ X C H M O₀ : List ℕ} where
-  pub up-start : (m : ℕ) → Room C₀ H₀ X K O₀ root → C ≡ replicate (length C₀) 0 → H ≡ replicate (length H₀) 0 → M ≡ replicate m 0
+  pub up-start : (M₀ : List ℕ) → Room C₀ H₀ X K O₀ root → C ≡ replicate (length C₀) 0 → H ≡ replicate (length H₀) 0 → M ≡ replicate (length M₀) 0 → Places M₀
       → Halfway T K root C H X 0 M (set (set O₀ 0 0) 1 1) 2
-  up-start m room c h e = record {
+  up-start M₀ room c h e l = record {
     store = subst (λ C. Store C H X 0) (sym c) (subst (λ H. Store (replicate (length C₀) 0) H X 0) (sym h)
         (store-cleared (length C₀) (length H₀) X (room .small) (room .linked) (room .chains)));
-    memo = subst (Memo (Right C 0 T)) (sym e) (memo-cleared m);
+    memo = subst (Memo (Right C 0 T)) (sym e) (memo-cleared M₀ l);
     only = only-none;
     own = λ j l _. leaves j l;
   }

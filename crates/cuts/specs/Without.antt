@@ -4,7 +4,7 @@ use mathlib.Core.Path.{_≡_}
 use mathlib.Core.List.{List}
 use Prim.Native.Nat.{ℕ, suc, _+_, _<_, _≤_, min}
 use Rattle.paper.specs.Limits.{limits}
-use Rattle.paper.specs.Diagrams.{Diagram, Ordered}
+use Rattle.paper.specs.Diagrams.{Diagram, node, Ordered}
 use Rattle.algebra.specs.Families.{mkZ, withoutD}
 use Rattle.tables.specs.Table.{den}
 use Rattle.store.specs.Store.{Store}
@@ -48,10 +48,18 @@ abbrev pub Asked : List ℕ → ℕ → ℕ → Known → Type 0
 Asked M f g (Node r) = Answered M f g r
 Asked M f g (Unknown at) = Missed M f g at
 
--- f and g taken apart at the earlier of their events
+-- node h stands for g in every family that begins at event e
+pub record Passed (T : List ℕ) (e g h : ℕ) : Type 0 where
+  pub node-h : 2 ≤ h
+  pub low : h ≤ g
+  pub function : Readable T h
+  pub rise : top (den T g) ≤ top (den T h)
+  pub same : (f s : Diagram) → withoutD (node e f s) (den T g) ≡ withoutD (node e f s) (den T h)
+
+-- f and g taken apart at an event that is none of those before both
 pub record Parted (C T : List ℕ) (f g : ℕ) (p : Parts) : Type 0 where
   pub event : p .e < limits .events
-  pub first : min (top (den C f)) (top (den T g)) ≡ p .e
+  pub first : min (top (den C f)) (top (den T g)) ≤ p .e
   pub f1-low : p .f1 ≤ f
   pub g1-low : p .g1 ≤ g
   pub f0-low : p .f0 ≤ f

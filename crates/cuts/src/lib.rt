@@ -8,9 +8,9 @@ ghost use lib.ListN.{length};
 ghost use Rattle.algebra.specs.Families.{mkZ, withoutD, cutsD};
 ghost use Rattle.tables.specs.Table.{den};
 ghost use Rattle.store.specs.Store.{Store};
-ghost use Rattle.store.specs.Memo.{Place};
+ghost use Rattle.store.specs.Memo.{Places, Place};
 ghost use Rattle.cuts.specs.Reading.{Held, Readable};
-ghost use Rattle.cuts.specs.Without.{Family, Ready, Asked, Missed, Parted, Finishes, Takes};
+ghost use Rattle.cuts.specs.Without.{Family, Ready, Asked, Missed, Passed, Parted, Finishes, Takes};
 ghost use Rattle.cuts.specs.Reach.{Marked, Spread};
 ghost use Rattle.cuts.specs.Cutting.{Cuts, Room, Turn, Halfway, Base, Steps};
 
@@ -39,18 +39,39 @@ fn branches(e: u32, f1: u32, g1: u32, f0: u32, g0: u32) -> Parts
 
 // What is known without taking F and G apart: a leaf, or what the memo says.
 fn ask(memo: &[u32], f: u32, g: u32) -> Known
+    requires { ⌜ Places (now memo) ⌝ }
     ensures { λ r. ⌜ Asked (now (memo .entry)) f g r ⌝ }
 {
-    if g == 1 {
-        return Known::Node(0);
-    }
-    if g == 0 {
+    if g < 2 {
+        if g == 1 {
+            return Known::Node(0);
+        }
         return Known::Node(f);
     }
     if f < 2 {
         return Known::Node(f);
     }
     store::recall(memo, 3, f, g)
+}
+
+// g past its events that are earlier than e: no set of a family that begins at e has them. The last node before a leaf stays.
+fn past(nodes: &[u32], e: u32, g: u32) -> u32
+    requires { ⌜ Readable (now nodes) g ⌝ }
+    requires { ⌜ 2 ≤ g ⌝ }
+    ensures { λ r. ⌜ Passed (now (nodes .entry)) e g r ⌝ }
+{
+    let mut h = g;
+    loop {
+        let j = 3 * ((h - 2) as usize);
+        if e <= nodes[j] {
+            return h;
+        }
+        let s = nodes[j + 2];
+        if s < 2 {
+            return h;
+        }
+        h = s;
+    }
 }
 
 // Takes f and g apart; no set of f has an event earlier than its own, so that its failed branch there is 0.
@@ -71,11 +92,12 @@ fn take_apart(
     ensures { λ r. ⌜ Parted (now (cut .entry)) (now (nodes .entry)) f g r ⌝ }
 {
     let i = 3 * ((f - 2) as usize);
-    let j = 3 * ((g - 2) as usize);
     let x = cut[i];
+    let h = past(nodes, x, g);
+    let j = 3 * ((h - 2) as usize);
     let y = nodes[j];
     if x < y {
-        return branches(x, cut[i + 1], g, cut[i + 2], g);
+        return branches(x, cut[i + 1], h, cut[i + 2], h);
     }
     if y < x {
         return branches(y, 0, 0, f, nodes[j + 2]);
@@ -309,7 +331,33 @@ fn cut_all(
     Built::Done(own[root], count)
 }
 
-// THE CUT TABLE of a node table's root, over whatever the lent memory holds: `next`, `marks` and `own` are work areas with a number for each node.
+// The cut table of a node table's root, over whatever the lent memory holds.
+fn cuts_over(
+    cut: &mut [u32],
+    heads: &mut [u32],
+    next: &mut [u32],
+    memo: &mut [u32],
+    marks: &mut [u32],
+    own: &mut [u32],
+    nodes: &[u32],
+    root: usize,
+) -> Built
+    requires { ⌜ Readable (now nodes) root ⌝ }
+    requires { ⌜ Room (now cut) (now heads) (now next) (now marks) (now own) root ⌝ }
+    requires { ⌜ Places (now memo) ⌝ }
+    ensures { λ r. ⌜ Cuts (den (now (nodes .entry)) root) (now (cut .exit)) (now (heads .exit)) (now (next .exit)) r ⌝ }
+{
+    tables::clear(cut);
+    tables::clear(heads);
+    tables::clear(memo);
+    mark(nodes, marks, root);
+    own[0] = 0;
+    own[1] = 1;
+    cut_all(cut, heads, next, memo, own, nodes, marks, root)
+}
+
+// THE CUT TABLE: `next`, `marks` and `own` are work areas with a number for each node. A memo of no place gives way to one of a single place, so that the
+// recursion need not ask whether there is one.
 pub fn build_cuts(
     cut: &mut [u32],
     heads: &mut [u32],
@@ -324,11 +372,10 @@ pub fn build_cuts(
     requires { ⌜ Room (now cut) (now heads) (now next) (now marks) (now own) root ⌝ }
     ensures { λ r. ⌜ Cuts (den (now (nodes .entry)) root) (now (cut .exit)) (now (heads .exit)) (now (next .exit)) r ⌝ }
 {
-    tables::clear(cut);
-    tables::clear(heads);
-    tables::clear(memo);
-    mark(nodes, marks, root);
-    own[0] = 0;
-    own[1] = 1;
-    cut_all(cut, heads, next, memo, own, nodes, marks, root)
+    let n = store::used(memo.len());
+    if n < 4 {
+        let mut one = [0u32; 4];
+        return cuts_over(cut, heads, next, &mut one, marks, own, nodes, root);
+    }
+    cuts_over(cut, heads, next, &mut memo[..n], marks, own, nodes, root)
 }

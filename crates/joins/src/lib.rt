@@ -8,7 +8,7 @@ ghost use Rattle.paper.specs.Diagrams.{mkD};
 ghost use Rattle.algebra.specs.Operations.{joinD};
 ghost use Rattle.tables.specs.Table.{den};
 ghost use Rattle.store.specs.Store.{Store};
-ghost use Rattle.store.specs.Memo.{Place};
+ghost use Rattle.store.specs.Memo.{Places, Place};
 ghost use Rattle.joins.specs.Joins.{bit, Ready, Joins, Arranged, Parted, Asked, Finishes};
 
 // Two nodes taken apart at the earlier of their events: what they become with it failed, f1 and g1, and sound, f0 and g0.
@@ -75,6 +75,7 @@ fn take_apart(nodes: &[u32], heads: &[u32], next: &[u32], count: usize, f: u32, 
 fn ask(memo: &[u32], z: u32, f: u32, g: u32) -> Known
     requires { ⌜ z < 2 ⌝ }
     requires { ⌜ f ≤ g ⌝ }
+    requires { ⌜ Places (now memo) ⌝ }
     ensures { λ r. ⌜ Asked (now (memo .entry)) z f g r ⌝ }
 {
     if f == g {

@@ -8,7 +8,8 @@ use native.Mathlib.Omega.{arith}
 use lib.ListN.{length, getD, replicate, length-replicate, getD-replicate, List·getD-eq-default}
 use Rattle.paper.specs.Limits.{mostNumbers}
 use Rattle.store.specs.Store.{Store}
-use Rattle.store.specs.Memo.{Memo}
+use Rattle.store.specs.Memo.{Memo, Places}
+use Rattle.store.proofs.Memory.{places-kept}
 use Rattle.store.proofs.Denotes.{below-or-not}
 
 -- every number of a cleared area is 0, and so is what lies behind it
@@ -43,5 +44,5 @@ store-cleared t h X a b d =
     let q = length-replicate {A = ℕ} h 0 in
     store-zero (replicate t 0) (replicate h 0) X (omega arith) (omega arith) (omega arith) (zero-at t) (zero-at h)
 
-pub memo-cleared : {P : ℕ → ℕ → ℕ → ℕ → Type 0} (n : ℕ) → Memo P (replicate n 0)
-memo-cleared n = record { each = λ j e. absurd (e (zero-at n (4 * j))) }
+pub memo-cleared : {P : ℕ → ℕ → ℕ → ℕ → Type 0} (M : List ℕ) → Places M → Memo P (replicate (length M) 0)
+memo-cleared M p = let n = length M in record { places = places-kept (length-replicate {A = ℕ} n 0) p; each = λ j e. absurd (e (zero-at n (4 * j))) }

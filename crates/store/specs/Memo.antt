@@ -3,13 +3,26 @@
 use mathlib.Core.Path.{_≡_}
 use mathlib.Core.List.{List}
 use mathlib.Core.Logic.{_⊎_}
-use Prim.Native.Nat.{ℕ, _+_, _*_, _≤_, max}
+use Prim.Native.Nat.{ℕ, _+_, _*_, _%_, _≤_}
 use lib.ListN.{getD, length}
 use Rattle.store.specs.declared.Known.{Known}
 use Rattle.store.specs.declared.Known.the-variants.{Node, Unknown}
 
+-- whole quadruples, at least one, and no more than a hash of 32 bits reaches
+pub record Places (M : List ℕ) : Type 0 where
+  pub some : 4 ≤ length M
+  pub few : length M ≤ 4294967296
+  pub whole : length M % 4 ≡ 0
+
+-- how many numbers of a memo of that length are used
+pub record Used (length used : ℕ) : Type 0 where
+  pub within : used ≤ length
+  pub few : used ≤ 4294967296
+  pub whole : used % 4 ≡ 0
+
 -- each quadruple is empty, or P holds of it
 pub record Memo (P : ℕ → ℕ → ℕ → ℕ → Type 0) (M : List ℕ) : Type 0 where
+  pub places : Places M
   pub each : (j : ℕ) → (getD M (4 * j) 0 ≡ 0 → ⊥) → P (getD M (4 * j) 0) (getD M (4 * j + 1) 0) (getD M (4 * j + 2) 0) (getD M (4 * j + 3) 0)
 
 -- quadruple j
@@ -24,11 +37,11 @@ pub record Hit (M : List ℕ) (op f g r : ℕ) : Type 0 where
   pub slot : ℕ
   pub quad : Quad M slot op f g r
 
--- a place for a quadruple, where the memo has room for any
+-- a place for a quadruple
 pub record Place (M : List ℕ) (at : ℕ) : Type 0 where
   pub slot : ℕ
   pub is : at ≡ 4 * slot
-  pub fits : at + 4 ≤ max 4 (length M)
+  pub fits : at + 4 ≤ length M
 
 -- at this place the memo has the operation
 pub record There (M : List ℕ) (at op f g : ℕ) : Type 0 where

@@ -9,10 +9,13 @@ use Rattle.paper.specs.Limits.{mostNumbers}
 use Rattle.tables.specs.Table.{eventAt, failedAt, soundAt}
 use Rattle.tables.specs.Stored.{Lower, Unique, ZeroBehind, Kept}
 
--- the slot, of so many, at which the search for a triple begins: only the proof of the function that computes it, and the law
--- that it is below the number of slots, look inside
+-- three numbers mixed to 32 bits: only the proof of the function that does it, and the law that it is so many bits, look inside
+unfoldable pub mix : ℕ → ℕ → ℕ → ℕ
+mix e f s = (e * 906908087 % 4294967296 + f * 1641373853 % 4294967296 + s * 2345438705 % 4294967296) % 4294967296
+
+-- the slot, of so many, at which the search for a triple begins
 unfoldable pub firstSlot : ℕ → ℕ → ℕ → ℕ → ℕ
-firstSlot e f s slots = (e * 7919 + f * 12582917 + s * 4256249) % 4294967296 * 2654435769 % 4294967296 * (slots % 4294967296) / 4294967296
+firstSlot e f s slots = mix e f s * (slots % 4294967296) / 4294967296
 
 -- what the function that chooses the first slot answers
 pub record First (e f s slots r : ℕ) : Type 0 where

@@ -7,9 +7,9 @@ ghost use lib.ListN.{length};
 ghost use Rattle.paper.specs.Diagrams.{node, mkD};
 ghost use Rattle.algebra.specs.Families.{mkZ};
 ghost use Rattle.tables.specs.Table.{den};
-ghost use Rattle.store.specs.Store.{First, Triple, Store, Put, Sought};
+ghost use Rattle.store.specs.Store.{mix, First, Triple, Store, Put, Sought};
 ghost use Rattle.store.specs.Building.{BuildsOne};
-ghost use Rattle.store.specs.Memo.{There, Place, Keeps, Recalls};
+ghost use Rattle.store.specs.Memo.{Places, Used, There, Place, Keeps, Recalls};
 
 // A node and the count of nodes after it; or the table is full. The count grew exactly if the node is new.
 pub enum Built {
@@ -23,17 +23,23 @@ pub enum Known {
     Unknown(usize),
 }
 
-// Where the search for a triple begins: its three numbers mixed to 32 bits, and those scaled to the slots.
-// However many slots there are, the product fits 64 bits.
-pub fn first_slot(e: u32, failed: u32, sound: u32, slots: usize) -> usize
-    requires { ⌜ 1 ≤ slots ⌝ }
-    ensures { λ r. ⌜ First e failed sound slots r ⌝ }
+// Three numbers mixed to 32 bits.
+fn mixed(e: u32, failed: u32, sound: u32) -> u64
+    ensures { λ r. ⌜ (r ≡ mix e failed sound) × (r < 4294967296) ⌝ }
 {
     let a = e as u64;
     let b = failed as u64;
     let c = sound as u64;
-    let x = (a * 7919 + b * 12582917 + c * 4256249) % 4294967296;
-    let y = x * 2654435769 % 4294967296;
+    let x = a * 906908087 % 4294967296 + b * 1641373853 % 4294967296;
+    (x + c * 2345438705 % 4294967296) % 4294967296
+}
+
+// Where the search for a triple begins: its three numbers mixed, and those scaled to the slots. However many slots there are, the product fits 64 bits.
+pub fn first_slot(e: u32, failed: u32, sound: u32, slots: usize) -> usize
+    requires { ⌜ 1 ≤ slots ⌝ }
+    ensures { λ r. ⌜ First e failed sound slots r ⌝ }
+{
+    let y = mixed(e, failed, sound);
     let few = slots as u64 % 4294967296;
     (y * few / 4294967296) as usize
 }
@@ -166,14 +172,24 @@ pub fn make_z(
     find_or_add(nodes, heads, next, count, e, failed, sound)
 }
 
+// How many numbers of a memo of that length are used: whole quadruples, and no more than a hash of 32 bits reaches.
+pub fn used(length: usize) -> usize
+    ensures { λ r. ⌜ Used length r ⌝ }
+{
+    let whole = length - length % 4;
+    if whole < 4294967296 {
+        return whole;
+    }
+    4294967296
+}
+
 // The place of an operation in the memo.
 fn place(memo: &[u32], op: u32, f: u32, g: u32) -> usize
+    requires { ⌜ Places (now memo) ⌝ }
     ensures { λ r. ⌜ Place (now (memo .entry)) r ⌝ }
 {
-    if memo.len() < 4 {
-        return 0;
-    }
-    4 * first_slot(op, f, g, memo.len() / 4)
+    let s = (mixed(op, f, g) * (memo.len() as u64) / 4294967296) as usize;
+    s - s % 4
 }
 
 // Whether the memo has the operation at that place.
@@ -181,9 +197,6 @@ fn hit(memo: &[u32], at: usize, op: u32, f: u32, g: u32) -> bool
     requires { ⌜ Place (now memo) at ⌝ }
     ensures { λ r. ⌜ (r ≡ true → There (now (memo .entry)) at op f g) ⌝ }
 {
-    if memo.len() < 4 {
-        return false;
-    }
     if memo[at] != op {
         return false;
     }
@@ -195,6 +208,7 @@ fn hit(memo: &[u32], at: usize, op: u32, f: u32, g: u32) -> bool
 
 // What the memo says of the operation.
 pub fn recall(memo: &[u32], op: u32, f: u32, g: u32) -> Known
+    requires { ⌜ Places (now memo) ⌝ }
     ensures { λ r. ⌜ Recalls (now (memo .entry)) op f g r ⌝ }
 {
     let at = place(memo, op, f, g);
@@ -209,9 +223,6 @@ pub fn keep(memo: &mut [u32], at: usize, op: u32, f: u32, g: u32, r: u32)
     requires { ⌜ Place (now memo) at ⌝ }
     ensures { λ _. ⌜ Keeps (now (memo .entry)) op f g r (now (memo .exit)) ⌝ }
 {
-    if memo.len() < 4 {
-        return;
-    }
     memo[at] = op;
     memo[at + 1] = f;
     memo[at + 2] = g;

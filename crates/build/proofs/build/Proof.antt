@@ -1,24 +1,22 @@
+-- The part of the memo that is used, or a memo of one place. Assumes nothing.
 use borrow.Author.Needs.{needs}
+use mathlib.Core.Path.{sym}
 use native.Mathlib.Omega.{arith}
-use Rattle.paper.specs.Flat.{gatesOf}
-use Rattle.build.proofs.Sofar.{sofar-cleared, same-room}
+use lib.Seq.{length-take-le}
+use Rattle.store.proofs.Memory.{places-used, places-one}
 use Rattle.build.proofs.build.Statement.{statement}
 use Rattle.build.proofs.build.Tie as tie
 
-clear-requires : tie.Need-clear-requires
-clear-requires c κs = search needs
+used-requires : tie.Need-used-requires
+used-requires c κs = search needs
 
-clear-requires-2 : tie.Need-clear-requires-2
-clear-requires-2 c κs = search needs
+slice-aggregate-build-over : tie.Need-slice-aggregate-build-over
+slice-aggregate-build-over c = search needs
 
-clear-requires-3 : tie.Need-clear-requires-3
-clear-requires-3 c κs = search needs
-
-clear-requires-4 : tie.Need-clear-requires-4
-clear-requires-4 c κs = search needs
-
-build-gates-requires : tie.Need-build-gates-requires
-build-gates-requires c κs = ((c .before .before .before .before .before .before .before .before .before .before .before .before .before .before .before .before .before .before .before .before .before .before .before .before .before .before .before .before .before .before .pre .1 .0), (omega (arith, (c .before .before .before .before .before .before .before .before .before .before .before .before .before .before .before .before .before .before .before .before .before .before .before .before .before .before .before .before .before .before .pre .1 .1), c .before .before .before .before .before .before .before .clear4 .kept .0), sofar-cleared _ (c .before .before .before .before .before .before .before .before .before .before .before .before .before .before .before .before .before .before .before .before .before .before .before .before .before .before .before .before .before .before .args .memo .now) (c .before .before .before .before .before .before .before .before .before .before .before .before .before .before .before .before .before .before .before .before .before .before .before .before .before .before .before .before .before .before .args .gates .now) (c .before .before .before .before .before .before .before .before .before .before .before .before .before .before .before .before .before .before .before .before .before .before .before .before .before .before .before .before .before .before .pre .0) (c .before .before .before .before .before .before .before .before .before .before .before .before .before .before .before .before .before .before .before .clear .ensures) (c .before .before .before .before .before .before .before .before .before .before .before .before .before .before .before .clear2 .ensures) (c .before .before .before .before .before .before .before .before .before .before .before .clear3 .ensures) (c .before .before .before .before .before .before .before .clear4 .ensures)))
+build-over-requires : tie.Need-build-over-requires
+build-over-requires c κs =
+    let s = c .before .before .before .before .before .before .before .before .before .before .before .before .before .before .before .before in
+    (s .pre .0, (s .pre .1 .0, (s .pre .1 .1, places-one)))
 
 same-length : tie.Need-same-length
 same-length c = search needs
@@ -32,24 +30,56 @@ same-length-3 c = search needs
 same-length-4 : tie.Need-same-length-4
 same-length-4 c = search needs
 
+returns : tie.Need-returns
+returns c = search needs
+
+slice-relend-prefix-build-over : tie.Need-slice-relend-prefix-build-over
+slice-relend-prefix-build-over c = search needs
+
+slice-aggregate-build-over-2 : tie.Need-slice-aggregate-build-over-2
+slice-aggregate-build-over-2 c = sym (length-take-le _ _ (c .before .before .before .before .before .used .ensures .within))
+
+build-over-requires-2 : tie.Need-build-over-requires-2
+build-over-requires-2 c κs =
+    let s = c .before .before .before .before .before .before .before .before .before .before .before .before .before .before .before .before in
+    (s .pre .0, (s .pre .1 .0, (s .pre .1 .1, places-used (s .args .memo .now) _ (c .before .before .before .before .before .before .used .ensures) (c .before .before .before .before .before .if1 .left))))
+
 same-length-5 : tie.Need-same-length-5
 same-length-5 c = search needs
 
-returns : tie.Need-returns
-returns c = same-room (gatesOf (c .before .before .before .before .before .before .before .before .before .before .before .before .before .before .before .before .before .before .before .before .before .before .before .before .before .before .before .before .before .before .before .before .before .before .before .before .before .before .before .before .before .args .kinds .now) (c .before .before .before .before .before .before .before .before .before .before .before .before .before .before .before .before .before .before .before .before .before .before .before .before .before .before .before .before .before .before .before .before .before .before .before .before .before .before .before .before .before .args .leasts .now) 0 (c .before .before .before .before .before .before .before .before .before .before .before .before .before .before .before .before .before .before .before .before .before .before .before .before .before .before .before .before .before .before .before .before .before .before .before .before .before .before .before .before .before .args .sizes .now) (c .before .before .before .before .before .before .before .before .before .before .before .before .before .before .before .before .before .before .before .before .before .before .before .before .before .before .before .before .before .before .before .before .before .before .before .before .before .before .before .before .before .args .inputs .now)) (c .before .before .before .before .before .before .before .before .before .before .build-gates .last .1 .1 .1 .1 .0) (c .before .before .before .before .before .before .before .before .before .before .build-gates .last .0) (c .before .before .before .before .before .before .before .before .before .before .build-gates .last .1 .0) (c .before .before .before .before .before .before .before .before .before .before .build-gates .last .1 .1 .0) (c .before .before .before .before .before .before .before .before .before .before .build-gates .result) (c .before .before .before .before .before .before .before .before .before .before .before .before .before .before .before .before .before .before .before .before .before .before .before .before .before .before .before .before .before .before .clear .kept .0) (c .before .before .before .before .before .before .before .before .before .before .build-gates .ensures)
+same-length-6 : tie.Need-same-length-6
+same-length-6 c = search needs
+
+same-length-7 : tie.Need-same-length-7
+same-length-7 c = search needs
+
+same-length-8 : tie.Need-same-length-8
+same-length-8 c = search needs
+
+same-length-9 : tie.Need-same-length-9
+same-length-9 c = search needs
+
+returns-2 : tie.Need-returns-2
+returns-2 c = search needs
 
 pub build-spec : {M : Type 1} → statement M
 build-spec =
     tie.close
     (tie.spec
-    clear-requires
-    clear-requires-2
-    clear-requires-3
-    clear-requires-4
-    build-gates-requires
+    used-requires
+    slice-aggregate-build-over
+    build-over-requires
     same-length
     same-length-2
     same-length-3
     same-length-4
+    returns
+    slice-relend-prefix-build-over
+    slice-aggregate-build-over-2
+    build-over-requires-2
     same-length-5
-    returns)
+    same-length-6
+    same-length-7
+    same-length-8
+    same-length-9
+    returns-2)

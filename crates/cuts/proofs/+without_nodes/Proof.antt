@@ -39,13 +39,13 @@ take-apart-requires t c κs =
     (ready .store, (ready .family, (ready .function, (missed .f-node, missed .g-node))))
 
 ask-requires : (t : ℕ) → lts.Need-ask-requires (calls t) (entry t) reads.Post
-ask-requires t c κs = tt
+ask-requires t c κs = c .before .before .before .before .before .before .before .before .before .before .pre .1 .0 .memo .places
 
 enum-known-r1 : (t : ℕ) → lts.Need-enum-known-r1 (calls t) (entry t) reads.Post
 enum-known-r1 t c = search needs
 
 ask-requires-2 : (t : ℕ) → lts.Need-ask-requires-2 (calls t) (entry t) reads.Post
-ask-requires-2 t c κs = tt
+ask-requires-2 t c κs = c .before .before .before .before .before .before .before .before .before .before .before .before .before .before .before .pre .1 .0 .memo .places
 
 enum-known-r0 : (t : ℕ) → lts.Need-enum-known-r0 (calls t) (entry t) reads.Post
 enum-known-r0 t c = search needs
@@ -147,7 +147,9 @@ returns-2 t c =
     handed nodes (c .before .before .before .before .before .before .before .before .before .before .before .before .without-nodes2 .last .1 .1 .1 .0) (c .before .before .before .before .before .before .before .before .before .before .before .before .without-nodes2 .result) (c .full2 .result) (c .before .before .enum-told2 .given .1) (c .full2 .ensures) (λ _. short-1 ready parts) (c .before .before .before .before .before .before .before .before .before .before .before .before .without-nodes2 .ensures)
 
 ask-requires-3 : (t : ℕ) → lts.Need-ask-requires-3 (calls t) (entry t) reads.Post
-ask-requires-3 t c κs = tt
+ask-requires-3 t c κs =
+    let made-1 = rw (c .before .before .a .given .1) at (c .before .before .before .before .before .before .before .before .before .before .before .before .without-nodes2 .ensures) in
+    made-1 .memo .places
 
 enum-known-r0-2 : (t : ℕ) → lts.Need-enum-known-r0-2 (calls t) (entry t) reads.Post
 enum-known-r0-2 t c = search needs

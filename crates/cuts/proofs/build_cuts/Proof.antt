@@ -1,40 +1,22 @@
--- Cleared memory, marks, and the way up. Assumes nothing.
+-- The part of the memo that is used, or a memo of one place. Assumes nothing.
 use borrow.Author.Needs.{needs}
-use mathlib.Core.Path.{_∙_}
+use mathlib.Core.Path.{sym}
 use native.Mathlib.Omega.{arith}
-use lib.ListN.{length, length-set}
-use Rattle.cuts.proofs.Up.{up-start, room-marks}
+use lib.Seq.{length-take-le}
+use Rattle.store.proofs.Memory.{places-used, places-one}
 use Rattle.cuts.proofs.build_cuts.Statement.{statement}
 use Rattle.cuts.proofs.build_cuts.Tie as tie
 
-clear-requires : tie.Need-clear-requires
-clear-requires c κs = search needs
+used-requires : tie.Need-used-requires
+used-requires c κs = search needs
 
-clear-requires-2 : tie.Need-clear-requires-2
-clear-requires-2 c κs = search needs
+slice-aggregate-cuts-over : tie.Need-slice-aggregate-cuts-over
+slice-aggregate-cuts-over c = search needs
 
-clear-requires-3 : tie.Need-clear-requires-3
-clear-requires-3 c κs = search needs
-
-mark-requires : tie.Need-mark-requires
-mark-requires c κs =
-    let function = c .before .before .before .before .before .before .before .before .before .before .before .before .before .before .before .before .before .before .before .before .pre .0 in
-    let room = c .before .before .before .before .before .before .before .before .before .before .before .before .before .before .before .before .before .before .before .before .pre .1 in
-    (function .held, room .marks)
-
-slice-write-own : tie.Need-slice-write-own
-slice-write-own c = search needs
-
-slice-write-own-2 : tie.Need-slice-write-own-2
-slice-write-own-2 c = search needs
-
-cut-all-requires : tie.Need-cut-all-requires
-cut-all-requires c κs =
-    let function = c .before .before .before .before .before .before .before .before .before .before .before .before .before .before .before .before .before .before .before .before .before .before .before .before .before .before .before .before .before .pre .0 in
-    let room = c .before .before .before .before .before .before .before .before .before .before .before .before .before .before .before .before .before .before .before .before .before .before .before .before .before .before .before .before .before .pre .1 in
-    let same = c .before .before .before .before .before .before .before .before .mark .kept .1 .0 in
-    let memo = c .before .before .before .before .before .before .before .before .before .before .before .before .before .before .before .before .before .before .before .before .before .before .before .before .before .before .before .before .before .args .memo .now in
-    (record { function = function; marked = c .before .before .before .before .before .before .before .before .mark .ensures; long = omega (arith, same, room .marks) }, (up-start (length memo) (room-marks same room) (c .before .before .before .before .before .before .before .before .before .before .before .before .before .before .before .before .before .before .before .before .clear .ensures) (c .before .before .before .before .before .before .before .before .before .before .before .before .before .before .before .before .clear2 .ensures) (c .before .before .before .before .before .before .before .before .before .before .before .before .clear3 .ensures), simp length-set (room .own)))
+cuts-over-requires : tie.Need-cuts-over-requires
+cuts-over-requires c κs =
+    let s = c .before .before .before .before .before .before .before .before .before .before .before .before .before .before .before in
+    (s .pre .0, (s .pre .1, places-one))
 
 same-length : tie.Need-same-length
 same-length c = search needs
@@ -51,25 +33,61 @@ same-length-4 c = search needs
 same-length-5 : tie.Need-same-length-5
 same-length-5 c = search needs
 
-same-length-6 : tie.Need-same-length-6
-same-length-6 c = c .before .before .before .before .before .before .before .before .before .before .cut-all .kept .1 .1 .1 .1 .0 ∙ simp length-set
-
 returns : tie.Need-returns
-returns c = c .before .before .before .before .before .before .before .before .before .before .cut-all .ensures
+returns c = search needs
+
+slice-relend-prefix-cuts-over : tie.Need-slice-relend-prefix-cuts-over
+slice-relend-prefix-cuts-over c = search needs
+
+slice-aggregate-cuts-over-2 : tie.Need-slice-aggregate-cuts-over-2
+slice-aggregate-cuts-over-2 c = sym (length-take-le _ _ (c .before .before .before .before .before .used .ensures .within))
+
+cuts-over-requires-2 : tie.Need-cuts-over-requires-2
+cuts-over-requires-2 c κs =
+    let s = c .before .before .before .before .before .before .before .before .before .before .before .before .before .before .before in
+    (s .pre .0, (s .pre .1, places-used (s .args .memo .now) _ (c .before .before .before .before .before .before .before .used .ensures) (c .before .before .before .before .before .before .if1 .left)))
+
+same-length-6 : tie.Need-same-length-6
+same-length-6 c = search needs
+
+same-length-7 : tie.Need-same-length-7
+same-length-7 c = search needs
+
+same-length-8 : tie.Need-same-length-8
+same-length-8 c = search needs
+
+same-length-9 : tie.Need-same-length-9
+same-length-9 c = search needs
+
+same-length-10 : tie.Need-same-length-10
+same-length-10 c = search needs
+
+same-length-11 : tie.Need-same-length-11
+same-length-11 c = search needs
+
+returns-2 : tie.Need-returns-2
+returns-2 c = search needs
 
 pub build-cuts-spec : {M : Type 1} → statement M
-build-cuts-spec = tie.close (tie.spec
-    clear-requires
-    clear-requires-2
-    clear-requires-3
-    mark-requires
-    slice-write-own
-    slice-write-own-2
-    cut-all-requires
+build-cuts-spec =
+    tie.close
+    (tie.spec
+    used-requires
+    slice-aggregate-cuts-over
+    cuts-over-requires
     same-length
     same-length-2
     same-length-3
     same-length-4
     same-length-5
+    returns
+    slice-relend-prefix-cuts-over
+    slice-aggregate-cuts-over-2
+    cuts-over-requires-2
     same-length-6
-    returns)
+    same-length-7
+    same-length-8
+    same-length-9
+    same-length-10
+    same-length-11
+    returns-2)

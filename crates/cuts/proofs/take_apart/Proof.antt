@@ -1,6 +1,6 @@
 -- The three ways in which two top events can stand are three laws. Assumes nothing.
 use borrow.Author.Needs.{needs}
-use Rattle.cuts.proofs.Apart.{part-earlier, part-later, part-equal}
+use Rattle.cuts.proofs.Apart.{part-earlier, part-later, part-equal, part-past}
 use Rattle.cuts.proofs.take_apart.Statement.{statement}
 use Rattle.cuts.proofs.take_apart.Tie as tie
 
@@ -13,6 +13,15 @@ cast-i c = search needs
 mul-i : tie.Need-mul-i
 mul-i c = search needs
 
+mul-x : tie.Need-mul-x
+mul-x c = search needs
+
+shared-slice-read-x : tie.Need-shared-slice-read-x
+shared-slice-read-x c = search needs
+
+past-requires : tie.Need-past-requires
+past-requires c κs = search needs
+
 sub-j : tie.Need-sub-j
 sub-j c = search needs
 
@@ -21,12 +30,6 @@ cast-j c = search needs
 
 mul-j : tie.Need-mul-j
 mul-j c = search needs
-
-mul-x : tie.Need-mul-x
-mul-x c = search needs
-
-shared-slice-read-x : tie.Need-shared-slice-read-x
-shared-slice-read-x c = search needs
 
 mul-y : tie.Need-mul-y
 mul-y c = search needs
@@ -57,12 +60,11 @@ branches-requires c κs = search needs
 
 returns : tie.Need-returns
 returns c =
-    let store = c .before .before .before .before .before .before .before .before .before .before .pre .0 in
-    let family = c .before .before .before .before .before .before .before .before .before .before .pre .1 .0 in
-    let function = c .before .before .before .before .before .before .before .before .before .before .pre .1 .1 .0 in
-    let f-node = c .before .before .before .before .before .before .before .before .before .before .pre .1 .1 .1 .0 in
-    let g-node = c .before .before .before .before .before .before .before .before .before .before .pre .1 .1 .1 .1 in
-    rw (c .branches .ensures) (part-earlier store family function f-node g-node (c .before .before .before .if1 .taken))
+    let store = c .before .before .before .before .before .before .before .before .before .before .before .pre .0 in
+    let family = c .before .before .before .before .before .before .before .before .before .before .before .pre .1 .0 in
+    let f-node = c .before .before .before .before .before .before .before .before .before .before .before .pre .1 .1 .1 .0 in
+    let h = c .before .before .before .before .before .past .ensures in
+    rw (c .branches .ensures) (part-past store family f-node h (part-earlier store family (h .function) f-node (h .node-h) (c .before .before .before .if1 .taken)))
 
 add-branches-3 : tie.Need-add-branches-3
 add-branches-3 c = search needs
@@ -78,12 +80,11 @@ branches-requires-2 c κs = search needs
 
 returns-2 : tie.Need-returns-2
 returns-2 c =
-    let store = c .before .before .before .before .before .before .before .before .before .before .pre .0 in
-    let family = c .before .before .before .before .before .before .before .before .before .before .pre .1 .0 in
-    let function = c .before .before .before .before .before .before .before .before .before .before .pre .1 .1 .0 in
-    let f-node = c .before .before .before .before .before .before .before .before .before .before .pre .1 .1 .1 .0 in
-    let g-node = c .before .before .before .before .before .before .before .before .before .before .pre .1 .1 .1 .1 in
-    rw (c .branches2 .ensures) (part-later store family function f-node g-node (c .before .before .if2 .taken))
+    let store = c .before .before .before .before .before .before .before .before .before .before .before .pre .0 in
+    let family = c .before .before .before .before .before .before .before .before .before .before .before .pre .1 .0 in
+    let f-node = c .before .before .before .before .before .before .before .before .before .before .before .pre .1 .1 .1 .0 in
+    let h = c .before .before .before .before .before .past .ensures in
+    rw (c .branches2 .ensures) (part-past store family f-node h (part-later store family (h .function) f-node (h .node-h) (c .before .before .if2 .taken)))
 
 add-branches-4 : tie.Need-add-branches-4
 add-branches-4 c = search needs
@@ -126,23 +127,25 @@ branches-requires-3 c κs = search needs
 
 returns-3 : tie.Need-returns-3
 returns-3 c =
-    let store = c .before .before .before .before .before .before .before .before .before .before .before .before .before .pre .0 in
-    let family = c .before .before .before .before .before .before .before .before .before .before .before .before .before .pre .1 .0 in
-    let function = c .before .before .before .before .before .before .before .before .before .before .before .before .before .pre .1 .1 .0 in
-    let f-node = c .before .before .before .before .before .before .before .before .before .before .before .before .before .pre .1 .1 .1 .0 in
-    let g-node = c .before .before .before .before .before .before .before .before .before .before .before .before .before .pre .1 .1 .1 .1 in
-    rw (c .branches3 .ensures) (part-equal store family function f-node g-node (c .before .before .before .before .before .if2 .left) (c .before .before .before .before .before .before .if1 .left))
+    let store = c .before .before .before .before .before .before .before .before .before .before .before .before .before .before .pre .0 in
+    let family = c .before .before .before .before .before .before .before .before .before .before .before .before .before .before .pre .1 .0 in
+    let f-node = c .before .before .before .before .before .before .before .before .before .before .before .before .before .before .pre .1 .1 .1 .0 in
+    let h = c .before .before .before .before .before .before .before .before .past .ensures in
+    rw (c .branches3 .ensures) (part-past store family f-node h (part-equal store family (h .function) f-node (h .node-h) (c .before .before .before .before .before .if2 .left) (c .before .before .before .before .before .before .if1 .left)))
 
 pub take-apart-spec : {M : Type 1} → statement M
-take-apart-spec = tie.close (tie.spec
+take-apart-spec =
+    tie.close
+    (tie.spec
     sub-i
     cast-i
     mul-i
+    mul-x
+    shared-slice-read-x
+    past-requires
     sub-j
     cast-j
     mul-j
-    mul-x
-    shared-slice-read-x
     mul-y
     shared-slice-read-y
     add-branches

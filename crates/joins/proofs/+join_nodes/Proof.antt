@@ -38,13 +38,17 @@ join-nodes-take-apart-requires t c = λ _.
     (s .0 .store, ((s .1 .0, s .0 .f-in), (let x = s .1 in omega arith, s .0 .g-in)))
 
 join-nodes-ask-requires : (t : ℕ) → join-nodes-lts.Need-ask-requires (calls t) (join-nodes-at t) join-nodes.Post
-join-nodes-ask-requires t c = λ _. (c .before .before .before .before .before .before .before .before .before .pre .1 .0 .z-bit, c .before .take-apart .ensures .order-1)
+join-nodes-ask-requires t c = λ _.
+    let rd = c .before .before .before .before .before .before .before .before .before .pre .1 .0 in
+    (rd .z-bit, (c .before .take-apart .ensures .order-1, rd .memo .places))
 
 join-nodes-enum-known-r1 : (t : ℕ) → join-nodes-lts.Need-enum-known-r1 (calls t) (join-nodes-at t) join-nodes.Post
 join-nodes-enum-known-r1 t c = search needs
 
 join-nodes-ask-requires-2 : (t : ℕ) → join-nodes-lts.Need-ask-requires-2 (calls t) (join-nodes-at t) join-nodes.Post
-join-nodes-ask-requires-2 t c = λ _. (c .before .before .before .before .before .before .before .before .before .before .before .before .before .before .pre .1 .0 .z-bit, c .before .before .before .before .before .before .take-apart .ensures .order-0)
+join-nodes-ask-requires-2 t c = λ _.
+    let rd = c .before .before .before .before .before .before .before .before .before .before .before .before .before .before .pre .1 .0 in
+    (rd .z-bit, (c .before .before .before .before .before .before .take-apart .ensures .order-0, rd .memo .places))
 
 join-nodes-enum-known-r0 : (t : ℕ) → join-nodes-lts.Need-enum-known-r0 (calls t) (join-nodes-at t) join-nodes.Post
 join-nodes-enum-known-r0 t c = search needs
@@ -144,7 +148,9 @@ join-nodes-returns-2 t c =
     short-1 rd pt (k .last .0) (k .last .1 .0) (k .last .1 .1 .0) (k .last .1 .1 .1 .0) (c .before .before .enum-told2 .given .1) (k .ensures) (c .full2 .ensures)
 
 join-nodes-ask-requires-3 : (t : ℕ) → join-nodes-lts.Need-ask-requires-3 (calls t) (join-nodes-at t) join-nodes.Post
-join-nodes-ask-requires-3 t c = λ _. (c .before .before .before .before .before .before .before .before .before .before .before .before .before .before .before .before .before .before .before .before .before .before .before .before .before .before .before .before .before .before .pre .1 .0 .z-bit, c .before .before .before .before .before .before .before .before .before .before .before .before .before .before .before .before .before .before .before .before .before .before .take-apart .ensures .order-0)
+join-nodes-ask-requires-3 t c = λ _.
+    let a = rw (c .before .before .a .given .1) at (c .before .before .before .before .before .before .before .before .before .before .before .before .join-nodes2 .ensures) in
+    (c .before .before .before .before .before .before .before .before .before .before .before .before .before .before .before .before .before .before .before .before .before .before .before .before .before .before .before .before .before .before .pre .1 .0 .z-bit, (c .before .before .before .before .before .before .before .before .before .before .before .before .before .before .before .before .before .before .before .before .before .before .take-apart .ensures .order-0, a .memo .places))
 
 join-nodes-enum-known-r0-2 : (t : ℕ) → join-nodes-lts.Need-enum-known-r0-2 (calls t) (join-nodes-at t) join-nodes.Post
 join-nodes-enum-known-r0-2 t c = search needs

@@ -1,38 +1,26 @@
-use mathlib.Core.Path.{refl}
-use Prim.Native.Nat.{_+_, _*_, _%_}
+use mathlib.Core.Path.{ap}
+use Prim.Native.Nat.{_*_, _/_, _%_}
 use native.Mathlib.Omega.{arith}
 use Rattle.store.specs.Store.{firstSlot}
-use Rattle.store.proofs.Slots.{scaled-fits, first-below}
+use Rattle.store.proofs.Slots.{scaled-fits, scaled-below}
 use borrow.Author.Needs.{needs}
 use Rattle.store.proofs.first_slot.Statement.{statement}
 use Rattle.store.proofs.first_slot.Tie as tie
 
-mul-x : tie.Need-mul-x
-mul-x c = search needs
-
-mul-x-2 : tie.Need-mul-x-2
-mul-x-2 c = search needs
-
-add-x : tie.Need-add-x
-add-x c = search needs
-
-mul-x-3 : tie.Need-mul-x-3
-mul-x-3 c = search needs
-
-add-x-2 : tie.Need-add-x-2
-add-x-2 c = search needs
-
-mul-y : tie.Need-mul-y
-mul-y c = search needs
+mixed-requires : tie.Need-mixed-requires
+mixed-requires c κs = search needs
 
 mul-result : tie.Need-mul-result
-mul-result c = let q = scaled-fits ((c .args .e * 7919 + c .args .failed * 12582917 + c .args .sound * 4256249) % 4294967296 * 2654435769 % 4294967296) (c .args .slots % 4294967296) (omega arith) (omega arith) in search (needs, q)
+mul-result c =
+    let m = c .mixed in
+    let q = scaled-fits (m .result) (c .before .args .slots % 4294967296) (m .ensures .1) (omega arith) in search (needs, q)
 
 returns : tie.Need-returns
 unfolding firstSlot
 returns c =
-    let a = c .args in
-    record { is = refl; below = first-below (a .e) (a .failed) (a .sound) (a .slots) (c .pre) }
+    let m = c .mixed in
+    let slots = c .before .args .slots in
+    record { is = ap (λ y. y * (slots % 4294967296) / 4294967296) (m .ensures .0); below = scaled-below (m .result) (slots % 4294967296) slots (m .ensures .1) (omega arith) (c .before .pre) }
 
 pub first-slot-spec : {M : Type 1} → statement M
-first-slot-spec = tie.close (tie.spec mul-x mul-x-2 add-x mul-x-3 add-x-2 mul-y mul-result returns)
+first-slot-spec = tie.close (tie.spec mixed-requires mul-result returns)

@@ -1,12 +1,9 @@
 use native.Mathlib.Omega.{arith}
 use lib.ListN.{length-set}
-use Rattle.store.proofs.Memory.{keeps-none, keeps-at}
+use Rattle.store.proofs.Memory.{keeps-at}
 use borrow.Author.Needs.{needs}
 use Rattle.store.proofs.keep.Statement.{statement}
 use Rattle.store.proofs.keep.Tie as tie
-
-returns : tie.Need-returns
-returns c = keeps-none
 
 mul-memo : tie.Need-mul-memo
 mul-memo c = search needs
@@ -44,14 +41,13 @@ slice-write-memo-4 c = simp length-set (omega arith)
 same-length : tie.Need-same-length
 same-length c = search needs
 
-returns-2 : tie.Need-returns-2
-returns-2 c = let a = c .before .args in keeps-at (a .memo .now) (a .at) (a .op) (a .f) (a .g) (a .r) (c .before .pre) (c .if1 .left)
+returns : tie.Need-returns
+returns c = let a = c .args in keeps-at (a .memo .now) (a .at) (a .op) (a .f) (a .g) (a .r) (c .pre)
 
 pub keep-spec : {M : Type 1} → statement M
 keep-spec =
     tie.close
     (tie.spec
-    returns
     mul-memo
     slice-write-memo
     add-memo
@@ -64,4 +60,4 @@ keep-spec =
     mul-memo-4
     slice-write-memo-4
     same-length
-    returns-2)
+    returns)
