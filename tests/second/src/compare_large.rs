@@ -6,6 +6,7 @@ use crate::compare::{compare_analysis_in, compare_diagram, compare_reading};
 use crate::compare_lent::one_listing;
 use crate::diagrams;
 use crate::european::european_1;
+use crate::generator::longest_run;
 use crate::judge::write;
 use crate::lent::{Lent, Sort, MOST_NUMBERS};
 use crate::library::*;
@@ -54,14 +55,7 @@ fn compare_named(library: &dyn Library, name: &'static str, tree: &Tree, random:
 /// The longest run of records without a fault, and what may follow it.
 fn compare_longest_bytes(library: &dyn Library, random: &mut Random, tally: &mut Tally) {
     tally.name = Some("the longest bytes");
-    let mut run = [1, 0, 0, 0, 0].repeat(MOST_EVENTS);
-    run.extend([4, 1, 1, 5, 0]);
-    let others = MOST_GATES - 1;
-    for gate in 1..MOST_GATES {
-        let n = (MOST_INPUTS - 1) / others + usize::from(gate <= (MOST_INPUTS - 1) % others);
-        run.extend([4, 1, n as u8]);
-        run.extend([6, 0, 0].repeat(n));
-    }
+    let run = longest_run();
     let tails: [&[u8]; 8] = [&[], &[7], &[7, 7], &[5, 0], &[6, 0, 0], &[2, 1], &[1, 0, 0, 0, 0], &[8]];
     for tail in tails {
         compare_reading(library, &[&run[..], tail].concat(), random, tally);

@@ -231,3 +231,16 @@ pub fn room(random: &mut Random, whole: usize) -> usize {
         _ => whole + random.below(600),
     }
 }
+
+/// 15,103 bytes, the longest run of records without a fault before the end: event inputs only where nothing else is allowed.
+pub fn longest_run() -> Vec<u8> {
+    let mut run = [1, 0, 0, 0, 0].repeat(MOST_EVENTS);
+    run.extend([4, 1, 1, 5, 0]);
+    let others = MOST_GATES - 1;
+    for gate in 1..MOST_GATES {
+        let n = (MOST_INPUTS - 1) / others + usize::from(gate <= (MOST_INPUTS - 1) % others);
+        run.extend([4, 1, n as u8]);
+        run.extend([6, 0, 0].repeat(n));
+    }
+    run
+}

@@ -10,8 +10,16 @@ use crate::sets::Set;
 use crate::tree::*;
 use crate::wrong_lent::{wrong_bracket, wrong_list};
 
-#[derive(Clone, Copy, Debug, PartialEq, Eq)]
-pub enum Wrong {
+// One name for each fault, and the list of them all.
+macro_rules! wrongs {
+    ($($name:ident),* $(,)?) => {
+        #[derive(Clone, Copy, Debug, PartialEq, Eq)]
+        pub enum Wrong { $($name),* }
+        pub const ALL: &[Wrong] = &[$(Wrong::$name),*];
+    };
+}
+
+wrongs! {
     // Reading.
     PlaceAlwaysZero,
     TrailingBytesAsRecords,
@@ -61,49 +69,6 @@ pub enum Wrong {
 }
 
 use Wrong::*;
-
-pub const ALL: [Wrong; 40] = [
-    PlaceAlwaysZero,
-    TrailingBytesAsRecords,
-    InputsSorted,
-    UnusedGateAccepted,
-    TotalJudgedAtTheInput,
-    WritesUntilFull,
-    ZerosBehindTheTree,
-    RoomBeforeTheTree,
-    UseNotJudgedOnWriting,
-    SafeBound,
-    OrForAtLeastOne,
-    JoinsFromTheRight,
-    CountsReachedCutNodes,
-    NodesStayOnEleven,
-    DirtBehindTheNodes,
-    ClearsBeforeNine,
-    OneNodeForAllGates,
-    AreaLeftDirty,
-    CountKeptInRefusal,
-    FirstGateIsRoot,
-    FinishedAfterFirstRoom,
-    FinishedIfRoomIsLeft,
-    NoCutStartsAtBeginning,
-    BeginningIsAfterEmpty,
-    FourteenBelow513,
-    WritesNothing,
-    LastSetForgotten,
-    SkipsWhatDoesNotFit,
-    BySize,
-    NoThirteen,
-    ZerosBehindTheCuts,
-    ZeroToOne,
-    LowTwice,
-    RoundsToNearest,
-    AreasDirtyBehind,
-    SevenOnlyForNodes,
-    NineBeforeTwelve,
-    JudgesReachedNodesOnly,
-    RefusesEqualNodes,
-    RefusesEqualBranchesOfCuts,
-];
 
 pub struct WrongProgram(pub Wrong);
 

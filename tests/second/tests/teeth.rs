@@ -32,7 +32,7 @@ fn the_mirror_passes() {
 
 #[test]
 fn wrong_programs_are_seen() {
-    for wrong in ALL {
+    for &wrong in ALL {
         let tally = tally(&WrongProgram(wrong), 20_000);
         assert!(tally.failed > 0, "{wrong:?} passes");
         println!("{wrong:?}: seed {}", tally.seed);

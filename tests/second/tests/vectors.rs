@@ -5,7 +5,7 @@ use second::big::Big;
 use second::bracket::{bracket, events_reached, exact_chance, keeps_promise};
 use second::equations::tree_of;
 use second::european::{european_1, EQUATIONS};
-use second::generator::{longest_shape, tree};
+use second::generator::{longest_run, longest_shape, tree};
 use second::judge::{read, write, Refusal};
 use second::lent::{Lent, Sort};
 use second::listing::{list, Walk};
@@ -58,14 +58,7 @@ fn reading() {
 /// 15,103 bytes of records without a fault: event inputs only where nothing else is allowed.
 #[test]
 fn longest_run_before_the_end() {
-    let mut run = [1, 0, 0, 0, 0].repeat(MOST_EVENTS);
-    run.extend([4, 1, 1, 5, 0]);
-    let others = MOST_GATES - 1;
-    for gate in 1..MOST_GATES {
-        let n = (MOST_INPUTS - 1) / others + usize::from(gate <= (MOST_INPUTS - 1) % others);
-        run.extend([4, 1, n as u8]);
-        run.extend([6, 0, 0].repeat(n));
-    }
+    let run = longest_run();
     assert_eq!(run.len(), 15_103);
     for (tail, number, place) in
         [("07", 8, 5), ("07 07", 3, 15_104), ("05 00", 3, 15_103), ("02 01", 4, 15_103), ("", 1, 15_103)]
