@@ -2,6 +2,3 @@
 pub mod Memory
 pub mod Analysed
 pub mod Filling
-pub mod Reasons
-pub mod Coincide
-pub mod Delivers

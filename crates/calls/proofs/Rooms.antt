@@ -13,7 +13,7 @@ use Rattle.tables.specs.Lent.{Lent}
 use Rattle.listing.specs.Answers.{toList, Within, Answered}
 use Rattle.listing.specs.Answers as answers
 use Rattle.listing.proofs.Join.{part, goes-on}
-use Rattle.analyser.proofs.Serving.{serves, hands-on}
+use Rattle.promises.proofs.Serving.{serves, hands-on}
 use Rattle.calls.specs.Rooms.{longest, Next}
 
 module _ {n : ℕ} {T : List ℕ} {c root : ℕ} {begin : Bool} {ws room room′ : List ℕ} {count used : ℕ} {last : List ℕ} {finished : Bool} where

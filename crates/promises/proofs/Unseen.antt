@@ -16,12 +16,12 @@ use Rattle.listing.specs.Answers as listing
 use Rattle.listing.proofs.Once.{Outcome, Allowed, answer-once}
 use Rattle.bracket.specs.Bracketed as bracket
 use Rattle.bracket.proofs.Outcome.{Same, one-outcome}
 use Rattle.analyser.specs.Memory.{Memory}
 use Rattle.analyser.specs.Analysed.{Done, Analysed}
-use Rattle.analyser.specs.Reasons.{Accepted}
+use Rattle.promises.specs.Reasons.{Accepted}
 use Rattle.analyser.specs.declared.Analysis.{Analysis}
-use Rattle.analyser.proofs.Coincide.{same-book, coincide, same-number, done-renumbered}
-use Rattle.analyser.proofs.Which.{finished-tree}
+use Rattle.promises.proofs.Coincide.{same-book, coincide, same-number, done-renumbered}
+use Rattle.promises.proofs.Which.{finished-tree}
 
 module _ {t : Tree} {m m₁ m₂ : Memory} {a₁ a₂ : Analysis} (d : Done t m m₁ a₁) (e : Done t m m₂ a₂) where
   root-same : den (m₂ .nodes) (a₂ .root) ≡ den (m₁ .nodes) (a₁ .root)

@@ -23,7 +23,7 @@ use Rattle.tables.specs.Lent.{Lent}
 use Rattle.tables.proofs.Lent.{root-ordered}
 use Rattle.listing.specs.Answers.{startOf, Within, toList, Short, Answered}
 use Rattle.listing.proofs.Join.{fitting-split}
-use Rattle.analyser.proofs.Telling.{set-size}
+use Rattle.promises.proofs.Telling.{set-size}
 
 -- ---- rooms that any set fits into are never too small
 

@@ -12,12 +12,12 @@ use Rattle.records.specs.Answers.{verdict}
 use Rattle.records.specs.Judge.{refuse, outcome}
 use Rattle.records.specs.Trees.{treeOf}
 use Rattle.records.specs.declared.Answer.{Answer}
 use Rattle.analyser.specs.Memory.{Memory, Lengths, AllZero, capacity}
 use Rattle.analyser.specs.Analysed.{Refused, at, Done, Analysed}
 use Rattle.analyser.specs.declared.Analysis.{Analysis}
-use Rattle.analyser.specs.Reasons.{OneToEight, BadTree, Accepted, Long, TooManyNodes, TooManyCuts}
-use Rattle.analyser.proofs.Refusals.{refusal-range}
-use Rattle.analyser.proofs.Coincide.{same-answer, same-book, not-both, coincide, same-number}
+use Rattle.promises.specs.Reasons.{OneToEight, BadTree, Accepted, Long, TooManyNodes, TooManyCuts}
+use Rattle.promises.proofs.Refusals.{refusal-range}
+use Rattle.promises.proofs.Coincide.{same-answer, same-book, not-both, coincide, same-number}
 
 -- ---- an outcome for each refusal
 

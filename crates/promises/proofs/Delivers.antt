@@ -8,17 +8,17 @@ use Rattle.records.specs.Judge.{Book}
 use Rattle.records.specs.Trees.{Lawful, treeOf}
 use Rattle.records.proofs.Lawful.{lawful}
 use Rattle.listing.proofs.Join.{join-all, goes-on}
 use Rattle.analyser.specs.Memory.{Memory}
 use Rattle.analyser.specs.Analysed.{Done, Analysed}
 use Rattle.analyser.specs.Filling.{Sound}
-use Rattle.analyser.specs.Delivers.{Exact, Faithful, Listed, Near, Delivers}
-use Rattle.analyser.specs.Reasons.{Accepted}
+use Rattle.promises.specs.Delivers.{Exact, Faithful, Listed, Near, Delivers}
+use Rattle.promises.specs.Reasons.{Accepted}
 use Rattle.analyser.specs.declared.Analysis.{Analysis}
 use Rattle.analyser.proofs.Tables.{read-sound}
-use Rattle.analyser.proofs.Promises.{root-function, gates-agree, functions-apart, families-apart}
-use Rattle.analyser.proofs.OnTables.{list-takes, list-no-other, bracket-takes, bracket-encloses, own-answers, cuts-exactly, cuts-sorted, cuts-once, cuts-decide}
-use Rattle.analyser.proofs.Serving.{serves, hands-on}
-use Rattle.analyser.proofs.Which.{finished-tree}
+use Rattle.promises.proofs.Promises.{root-function, gates-agree, functions-apart, families-apart}
+use Rattle.promises.proofs.OnTables.{list-takes, list-no-other, bracket-takes, bracket-encloses, own-answers, cuts-exactly, cuts-sorted, cuts-once, cuts-decide}
+use Rattle.promises.proofs.Serving.{serves, hands-on}
+use Rattle.promises.proofs.Which.{finished-tree}
 
 module _ (b : Book) (l : Lawful limits b) {m m′ : Memory} {a : Analysis} (d : Done (treeOf b) m m′ a) where
   sound : Sound (treeOf b)

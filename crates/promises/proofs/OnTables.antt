@@ -31,13 +31,13 @@ use Rattle.listing.specs.Joined.{Joined}
 use Rattle.listing.proofs.Join.{join, join-all}
 use Rattle.bracket.specs.Bracketed as bracket
 use Rattle.bracket.proofs.Outcome.{encloses-built}
 use Rattle.analyser.specs.Memory.{Memory, capacity}
 use Rattle.analyser.specs.Analysed.{Done}
 use Rattle.analyser.specs.Filling.{Sound}
-use Rattle.analyser.specs.Delivers.{Own}
+use Rattle.promises.specs.Delivers.{Own}
 use Rattle.analyser.specs.declared.Analysis.{Analysis}
-use Rattle.analyser.proofs.Promises.{root-function}
-use Rattle.analyser.proofs.Telling.{bytes-tell}
+use Rattle.promises.proofs.Promises.{root-function}
+use Rattle.promises.proofs.Telling.{bytes-tell}
 
 -- ---- the chances of a tree that was read
 

@@ -21,7 +21,7 @@ use Rattle.records.specs.declared.judge.Step.the-variants.{AddEvent, AddGate, A
 use Rattle.records.specs.declared.uses.Found.{Found}
 use Rattle.records.specs.declared.uses.Found.the-variants.{At, Nothing}
 use Rattle.records.proofs.Cases.{if-elim}
-use Rattle.analyser.specs.Reasons.{OneToEight}
+use Rattle.promises.specs.Reasons.{OneToEight}
 use Rattle.records.proofs.Runs.{run-event, run-gate, run-input, run-close, run-refused}
 
 -- what a step, or a reading, says if it refuses

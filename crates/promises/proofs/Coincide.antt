@@ -23,12 +23,12 @@ use Rattle.records.specs.Answers.{verdict}
 use Rattle.records.specs.Judge.{Book, accept, refuse, outcome}
 use Rattle.records.specs.Trees.{treeOf}
 use Rattle.records.specs.declared.Answer.{Answer}
 use Rattle.analyser.specs.Memory.{Memory, Lengths, AllZero, capacity}
 use Rattle.analyser.specs.Analysed.{Refused, Done, Analysed}
-use Rattle.analyser.specs.Coincide.{Renumbering, Renumbered, Coincide}
+use Rattle.promises.specs.Coincide.{Renumbering, Renumbered, Coincide}
 use Rattle.analyser.specs.declared.Analysis.{Analysis}
-use Rattle.analyser.proofs.Refusals.{refusal-range}
-use Rattle.analyser.proofs.Renumbering.{renumbering, match-functions, match-families}
+use Rattle.promises.proofs.Refusals.{refusal-range}
+use Rattle.promises.proofs.Renumbering.{renumbering, match-functions, match-families}
 
 -- ---- two done analyses
 

@@ -1,0 +1,11 @@
+pub mod Refusals
+pub mod Renumbering
+pub mod Coincide
+pub mod Contents
+pub mod Which
+pub mod Unseen
+pub mod Promises
+pub mod Telling
+pub mod Serving
+pub mod OnTables
+pub mod Delivers
