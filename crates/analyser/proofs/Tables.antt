@@ -28,7 +28,7 @@ use Rattle.build.proofs.Reading.{arrays-memory}
 use Rattle.build.specs.Finishing.{Areas, Whole, TooMany}
 use Rattle.build.proofs.Needed.{count-needed, needed-fits, needed-over}
 use Rattle.build.proofs.Meaning.{gate-shows, root-number, whole-lent}
-use Rattle.cuts.specs.Reading.{Readable}
+use Rattle.without.specs.Reading.{Readable}
 use Rattle.cuts.specs.Cutting.{cutNodes, CutTable, Room}
 use Rattle.cuts.proofs.Promises.{lent-readable, short-needs, done-needs, done-fits, done-list, done-lent}
 use Rattle.analyser.specs.Memory.{Memory, capacity, Zero, AllZero, Lengths}

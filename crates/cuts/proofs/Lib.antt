@@ -1,6 +1,4 @@
--- The laws of taking two diagrams apart, of marking, of the way up, and what they come to.
-pub mod Apart
-pub mod Recursion
+-- The laws of marking, of one node's cuts, of the way up, and what they come to.
 pub mod Node
 pub mod Marks
 pub mod Up

@@ -17,7 +17,7 @@ use Rattle.algebra.proofs.Subs.{subs-self, subs-trans}
 use Rattle.tables.specs.Table.{eventOf, failedOf, soundOf, den}
 use Rattle.tables.proofs.Den.{den-0, den-1, den-node, den-ind}
 use Rattle.store.proofs.Zeros.{zero-at}
-use Rattle.cuts.specs.Reading.{Held}
+use Rattle.without.specs.Reading.{Held}
 use Rattle.cuts.specs.Reach.{Reached, here, failed, sound, Marked, Spread}
 
 -- ---- one node

@@ -18,9 +18,9 @@ use Rattle.store.specs.declared.Built.{Built}
 use Rattle.store.specs.declared.Built.the-variants.{Done, Short}
 use Rattle.store.proofs.Denotes.{found-grown}
 use Rattle.store.proofs.Building.{makes-seq, stops-more, stops-seq, step-more}
-use Rattle.cuts.specs.Without.{Ready, Taken, Takes}
+use Rattle.without.specs.Without.{Ready, Taken, Takes}
 use Rattle.cuts.specs.Cutting.{Turn}
-use Rattle.cuts.proofs.Recursion.{part-failed, part-self, right-grown, readable-low}
+use Rattle.without.proofs.Recursion.{part-failed, part-self, right-grown, readable-low}
 
 module _ {C H X : List ℕ} {d : ℕ} {M T O : List ℕ} {i : ℕ} (t : Turn C H X d M T O i) where
   abbrev e : ℕ

@@ -28,7 +28,7 @@ use Rattle.tables.proofs.Lent.{lent-lower, lent-ordered}
 use Rattle.store.specs.Building.{Has}
 use Rattle.store.specs.declared.Built.{Built}
 use Rattle.store.specs.declared.Built.the-variants.{Done, Short}
-use Rattle.cuts.specs.Reading.{Readable}
+use Rattle.without.specs.Reading.{Readable}
 use Rattle.cuts.specs.Cutting.{cutNodes, CutTable, Cuts, Full}
 
 -- ---- what the analysis has can be read

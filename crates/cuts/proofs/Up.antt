@@ -24,8 +24,8 @@ use Rattle.store.proofs.Denotes.{found-grown, found-whole, den-is-node}
 use Rattle.store.proofs.Building.{step-more, lacks-more, only-none, only-step}
 use Rattle.store.proofs.Zeros.{store-cleared, memo-cleared}
 use Rattle.store.proofs.Counting.{nodes-done, nodes-full}
-use Rattle.cuts.specs.Reading.{Held}
-use Rattle.cuts.specs.Without.{Right, Taken}
+use Rattle.without.specs.Reading.{Held}
+use Rattle.without.specs.Without.{Right, Taken}
 use Rattle.cuts.specs.Reach.{Reached, here, failed, sound}
 use Rattle.cuts.specs.Cutting.{families, cutNodes, CutTable, Room, Turn, Halfway, Base}
 use Rattle.cuts.proofs.Marks.{held-low, failed-below, sound-below, reached-held as reached-low, reached-sub, sub-reached}

@@ -16,8 +16,8 @@ use Rattle.store.specs.Building.{PartOf, Found, Has, Only}
 use Rattle.store.specs.Memo.{Memo}
 use Rattle.store.specs.declared.Built.{Built}
 use Rattle.store.specs.declared.Built.the-variants.{Done, Short}
-use Rattle.cuts.specs.Reading.{Readable}
-use Rattle.cuts.specs.Without.{Right}
+use Rattle.without.specs.Reading.{Readable}
+use Rattle.without.specs.Without.{Right}
 use Rattle.cuts.specs.Reach.{Marked}
 
 -- ---- what is wanted

@@ -1,5 +1,3 @@
--- What the functions over a node table and its cut table promise.
-pub mod Reading
-pub mod Without
+-- What a root reaches, and what the way up to its cuts promises.
 pub mod Reach
 pub mod Cutting

@@ -1,9 +1,9 @@
 -- The leaves, and then the memo. Assumes nothing.
 use borrow.Author.Needs.{needs}
 use native.Mathlib.Omega.{arith}
-use Rattle.cuts.proofs.Apart.{ask-one, ask-none, ask-leaf, ask-memo}
-use Rattle.cuts.proofs.ask.Statement.{statement}
-use Rattle.cuts.proofs.ask.Tie as tie
+use Rattle.without.proofs.Apart.{ask-one, ask-none, ask-leaf, ask-memo}
+use Rattle.without.proofs.ask.Statement.{statement}
+use Rattle.without.proofs.ask.Tie as tie
 
 returns : tie.Need-returns
 returns c =

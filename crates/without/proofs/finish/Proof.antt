@@ -1,7 +1,7 @@
 -- What was made is kept. Assumes nothing.
 use borrow.Author.Needs.{needs}
-use Rattle.cuts.proofs.finish.Statement.{statement}
-use Rattle.cuts.proofs.finish.Tie as tie
+use Rattle.without.proofs.finish.Statement.{statement}
+use Rattle.without.proofs.finish.Tie as tie
 
 make-z-requires : tie.Need-make-z-requires
 make-z-requires c κs = search needs

@@ -1,8 +1,8 @@
 -- The question, and where it has no answer the recursion. Assumes nothing.
 use borrow.Author.Needs.{needs}
-use Rattle.cuts.proofs.Recursion.{taken-here}
-use Rattle.cuts.proofs.without.Statement.{statement}
-use Rattle.cuts.proofs.without.Tie as tie
+use Rattle.without.proofs.Recursion.{taken-here}
+use Rattle.without.proofs.without.Statement.{statement}
+use Rattle.without.proofs.without.Tie as tie
 
 ask-requires : tie.Need-ask-requires
 ask-requires c κs = search needs

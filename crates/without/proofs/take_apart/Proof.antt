@@ -1,8 +1,8 @@
 -- The three ways in which two top events can stand are three laws. Assumes nothing.
 use borrow.Author.Needs.{needs}
-use Rattle.cuts.proofs.Apart.{part-earlier, part-later, part-equal, part-past}
-use Rattle.cuts.proofs.take_apart.Statement.{statement}
-use Rattle.cuts.proofs.take_apart.Tie as tie
+use Rattle.without.proofs.Apart.{part-earlier, part-later, part-equal, part-past}
+use Rattle.without.proofs.take_apart.Statement.{statement}
+use Rattle.without.proofs.take_apart.Tie as tie
 
 sub-i : tie.Need-sub-i
 sub-i c = search needs

@@ -1,10 +1,10 @@
 -- The invariant: the node at hand stands for g. Assumes nothing.
 use borrow.Author.Needs.{needs}
 use native.Mathlib.Omega.{arith}
-use Rattle.cuts.specs.Without.{Passed}
-use Rattle.cuts.proofs.Apart.{past-none, past-more, past-less}
-use Rattle.cuts.proofs.past.Statement.{statement}
-use Rattle.cuts.proofs.past.Tie as tie
+use Rattle.without.specs.Without.{Passed}
+use Rattle.without.proofs.Apart.{past-none, past-more, past-less}
+use Rattle.without.proofs.past.Statement.{statement}
+use Rattle.without.proofs.past.Tie as tie
 
 abbrev Inv-loop : tie.InvT-loop
 Inv-loop nodes e g h₀ h = Passed nodes e g h

@@ -23,9 +23,9 @@ use Rattle.store.specs.declared.Built.the-variants.{Done, Short}
 use Rattle.store.proofs.Denotes.{den-grown, found-grown}
 use Rattle.store.proofs.Building.{makes-here, makes-seq, stops-more, stops-seq, step-more, step-seq, still}
 use Rattle.store.proofs.Memory.{memo-keep, memo-map}
-use Rattle.cuts.specs.Reading.{Readable, top, remain}
-use Rattle.cuts.specs.Without.{Right, Ready, Answered, Parted, Finishes, Taken, Takes}
-use Rattle.cuts.specs.declared.Parts.{Parts}
+use Rattle.without.specs.Reading.{Readable, top, remain}
+use Rattle.without.specs.Without.{Right, Ready, Answered, Parted, Finishes, Taken, Takes}
+use Rattle.without.specs.declared.Parts.{Parts}
 
 -- ---- parts of a node made for families
 

@@ -6,17 +6,17 @@ use Prim.Native.Nat.{ℕ, _<_}
 use borrow.Fn.Kinds.{In}
 use borrow.Fn.PlainCycle.{Measures, is, falls, and}
 use Rattle.tables.specs.Table.{den}
-use Rattle.cuts.specs.Reading.{remain}
-use Rattle.cuts.proofs.Recursion.{place-long, taken-here, handed, ready-1, less-1, short-1, ready-2, less-2, short-2, store-2, hi-in, lo-in, finished}
-use Rattle.cuts.proofs.without_nodes.Reads as reads
-use Rattle.cuts.proofs.without_nodes.Kinds as kinds
-use Rattle.cuts.proofs.+without_nodes.Lts-without_nodes as lts
-use Rattle.cuts.proofs.ask.Reads as ask-reads
-use Rattle.cuts.proofs.finish.Reads as finish-reads
-use Rattle.cuts.proofs.full.Reads as full-reads
-use Rattle.cuts.proofs.take_apart.Reads as take-apart-reads
-use Rattle.cuts.proofs.+without_nodes.{statement}
-use Rattle.cuts.proofs.+without_nodes.Tie.{close}
+use Rattle.without.specs.Reading.{remain}
+use Rattle.without.proofs.Recursion.{place-long, taken-here, handed, ready-1, less-1, short-1, ready-2, less-2, short-2, store-2, hi-in, lo-in, finished}
+use Rattle.without.proofs.without_nodes.Reads as reads
+use Rattle.without.proofs.without_nodes.Kinds as kinds
+use Rattle.without.proofs.+without_nodes.Lts-without_nodes as lts
+use Rattle.without.proofs.ask.Reads as ask-reads
+use Rattle.without.proofs.finish.Reads as finish-reads
+use Rattle.without.proofs.full.Reads as full-reads
+use Rattle.without.proofs.take_apart.Reads as take-apart-reads
+use Rattle.without.proofs.+without_nodes.{statement}
+use Rattle.without.proofs.+without_nodes.Tie.{close}
 
 -- of cut, heads, next, memo, nodes, count, f, g and the place in the memo
 abbrev measure : Measures 5 kinds.ps ℕ

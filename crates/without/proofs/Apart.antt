@@ -17,9 +17,9 @@ use Rattle.store.specs.Memo.{Recalls}
 use Rattle.store.specs.declared.Known.{Known}
 use Rattle.store.specs.declared.Known.the-variants.{Node, Unknown}
 use Rattle.store.proofs.Memory.{memo-hit}
-use Rattle.cuts.specs.Reading.{Readable, top}
-use Rattle.cuts.specs.Without.{Family, Answered, Asked, Passed, Parted}
-use Rattle.cuts.specs.declared.Parts.{Parts}
+use Rattle.without.specs.Reading.{Readable, top}
+use Rattle.without.specs.Without.{Family, Answered, Asked, Passed, Parted}
+use Rattle.without.specs.declared.Parts.{Parts}
 
 -- ---- a leaf
 

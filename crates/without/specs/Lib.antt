@@ -1,0 +1,3 @@
+-- What the functions over a cut table and a node table promise.
+pub mod Reading
+pub mod Without
