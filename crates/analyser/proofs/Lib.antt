@@ -1,4 +1,2 @@
 pub mod Flags
-pub mod Holding
-pub mod Tables
 pub mod Outcomes

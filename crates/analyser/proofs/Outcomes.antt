@@ -14,11 +14,12 @@ use Rattle.records.specs.declared.Answer.{Answer}
 use Rattle.records.specs.declared.Answer.the-variants.{Done, Cut, UnknownKind, OutOfPlace, Count, Threshold, Reference, Chance, Unused, Room}
 use Rattle.records.specs.declared.Reading.{Reading}
 use Rattle.records.proofs.Promises.{Good, done-is-good}
-use Rattle.analyser.specs.Memory.{Memory, Lengths}
-use Rattle.analyser.specs.Analysed.{Refused, at, Analysed}
-use Rattle.analyser.specs.Filling.{treeIn, WasRead, CutsFilled, Filled, Tried}
-use Rattle.analyser.specs.declared.Analysis.{Analysis}
-use Rattle.analyser.proofs.Tables.{read-is, read-count}
+use Rattle.filling.specs.Memory.{Memory, Lengths}
+use Rattle.filling.specs.Outcome.{Refused, at}
+use Rattle.filling.specs.Filling.{treeIn, WasRead, CutsFilled, Filled}
+use Rattle.analyser.specs.Analysed.{Tried, Analysed}
+use Rattle.filling.specs.declared.Analysis.{Analysis}
+use Rattle.filling.proofs.Tables.{read-is, read-count}
 
 -- only Done has number 0
 pub done-of : (a : Answer) → verdict a .number ≡ 0 → a ≡ Done

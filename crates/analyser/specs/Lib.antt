@@ -1,4 +1,2 @@
 -- What the product's calls answer, and what they leave in all that was lent.
-pub mod Memory
 pub mod Analysed
-pub mod Filling

@@ -1,9 +1,8 @@
 // The product: trees read and written, analysed in lent tables, cuts listed, chances bracketed. Each public call answers for any arguments.
-mod filling; // the two tables of a tree
 mod lengths; // number 9
 
 use bracket::Ends;
-use filling::fill;
+use filling::Analysis;
 use lengths::lengths_ok;
 use listing::Listed;
 use records::Reading;
@@ -16,32 +15,9 @@ ghost use Rattle.records.specs.Memory.{inMemory};
 ghost use Rattle.records.specs.Bytes.{wrote, writeOf};
 ghost use Rattle.listing.specs.Answers.{Answered};
 ghost use Rattle.bracket.specs.Bracketed.{Bracketed};
-ghost use Rattle.analyser.specs.Memory.{memory};
-ghost use Rattle.analyser.specs.Filling.{WasRead, Tried};
-ghost use Rattle.analyser.specs.Analysed.{Refused, at, Analysed};
-
-// What an analysis answers: its number and place, the counts of both tables and both roots.
-pub struct Analysis {
-    pub number: u8,
-    pub place: usize,
-    pub nodes: usize,
-    pub cut_nodes: usize,
-    pub root: usize,
-    pub cut_root: usize,
-}
-
-fn refused(number: u8, place: usize) -> Analysis
-    ensures { λ r. ⌜ Refused (at number place) r ⌝ }
-{
-    Analysis {
-        number,
-        place,
-        nodes: 0,
-        cut_nodes: 0,
-        root: 0,
-        cut_root: 0,
-    }
-}
+ghost use Rattle.filling.specs.Memory.{memory};
+ghost use Rattle.filling.specs.Filling.{WasRead};
+ghost use Rattle.analyser.specs.Analysed.{Tried, Analysed};
 
 // Reads a tree from its bytes.
 pub fn read(bytes: &[u8]) -> Reading
@@ -104,9 +80,9 @@ fn analyse_tree(
 {
     let count = tree.gate_count;
     if !lengths_ok(nodes, cuts, gates, memo, heads, next, marks, own, count) {
-        return refused(9, 0);
+        return filling::refused(9, 0);
     }
-    fill(tree, nodes, cuts, gates, memo, heads, next, marks, own)
+    filling::fill(tree, nodes, cuts, gates, memo, heads, next, marks, own)
 }
 
 // Analyses a tree: its diagram in the node table, each gate's node in the gate list, its cuts in the cut table. What the lent memory
@@ -128,7 +104,7 @@ pub fn analyse(
     let a = r.answer;
     let number = records::number(a);
     if number != 0 {
-        return refused(number, records::place(a));
+        return filling::refused(number, records::place(a));
     }
     let tree = r.tree;
     analyse_tree(tree, nodes, cuts, gates, memo, heads, next, marks, own)

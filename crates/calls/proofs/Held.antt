@@ -20,9 +20,10 @@ use Rattle.records.proofs.Pad.{pad-getD}
 use Rattle.records.proofs.Lawful.{lawful, tree-events}
 use Rattle.records.proofs.Promises.{done-is-good}
 use Rattle.bracket.specs.Bracketed.{Chances}
-use Rattle.analyser.specs.Memory.{Memory}
+use Rattle.filling.specs.Memory.{Memory}
+use Rattle.filling.specs.Outcome as said
 use Rattle.analyser.specs.Analysed as an
-use Rattle.analyser.specs.declared.Analysis.{Analysis}
+use Rattle.filling.specs.declared.Analysis.{Analysis}
 use Rattle.analyser.proofs.Outcomes.{done-of}
 use Rattle.arrays.specs.Chances.{chancesOf}
 use Rattle.arrays.proofs.Chances.{chance-at}
@@ -46,7 +47,7 @@ module _ {b : Book} (l : Lawful limits b) where
         omega arith;
   }
 
-  book-held : {m m′ : Memory} {a : Analysis} → an.Done (treeOf b) m m′ a → Held (memory b) (m′ .nodes) (m′ .cuts) a
+  book-held : {m m′ : Memory} {a : Analysis} → said.Done (treeOf b) m m′ a → Held (memory b) (m′ .nodes) (m′ .cuts) a
   book-held {m′ = m′} {a} d = record {
     nodes = record {
       lent = subst (λ (n : ℕ). Lent false n (m′ .nodes) (a .nodes) (a .root)) (sym count-is) (d .node-table .lent);

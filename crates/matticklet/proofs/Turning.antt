@@ -11,9 +11,9 @@ use Rattle.paper.specs.Diagrams.{Diagram}
 use Rattle.paper.specs.Cuts.{cutList}
 use Rattle.tables.specs.Table.{den}
 use Rattle.listing.specs.Answers.{toList}
-use Rattle.analyser.specs.Memory.{Memory}
-use Rattle.analyser.specs.Analysed as an
-use Rattle.analyser.specs.declared.Analysis.{Analysis}
+use Rattle.filling.specs.Memory.{Memory}
+use Rattle.filling.specs.Outcome as said
+use Rattle.filling.specs.declared.Analysis.{Analysis}
 use Rattle.calls.specs.Rooms.{Next}
 use Rattle.calls.proofs.Rooms.{fewer}
 use Rattle.text.specs.Lines.{cutLine, cutLines}
@@ -48,6 +48,6 @@ pages-are {n} (Pages.goes p more) =
     ap₂ (λ (x y : List ℕ). x ++ y) (p .lines .1) (pages-are more ∙ ap (cutLines n) (p .after)) ∙ sym (lines-append n (p .written) (p .left)) ∙ ap (cutLines n) (sym (p .whole))
 
 -- THE LINES of a done analysis' cuts: one for each minimal cut, in order
-pub lines-are-cuts : {t : Tree} {m m′ : Memory} {a : Analysis} {ws text : List ℕ} → an.Done t m m′ a → Pages (events t) (den (m′ .cuts) (a .«cut_root»)) true ws text
+pub lines-are-cuts : {t : Tree} {m m′ : Memory} {a : Analysis} {ws text : List ℕ} → said.Done t m m′ a → Pages (events t) (den (m′ .cuts) (a .«cut_root»)) true ws text
     → text ≡ cutLines (events t) (cutList (events t) (rootFun (t .gates)))
 lines-are-cuts {t} d p = pages-are p ∙ ap (cutLines (events t)) (d .cuts-are)

@@ -1,5 +1,5 @@
 // The program: reads a tree from standard input, and writes its counts, its cuts and its top's bracket, or one line of refusal.
-use analyser::Analysis;
+use filling::Analysis;
 use records::Tree;
 ghost use Rattle.calls.specs.Tops.{Held};
 

@@ -23,10 +23,11 @@ use Rattle.records.specs.Answers.{verdict}
 use Rattle.records.specs.Judge.{Book, accept, refuse, outcome}
 use Rattle.records.specs.Trees.{treeOf}
 use Rattle.records.specs.declared.Answer.{Answer}
-use Rattle.analyser.specs.Memory.{Memory, Lengths, AllZero, capacity}
-use Rattle.analyser.specs.Analysed.{Refused, Done, Analysed}
+use Rattle.filling.specs.Memory.{Memory, Lengths, AllZero, capacity}
+use Rattle.filling.specs.Outcome.{Refused, Done}
+use Rattle.analyser.specs.Analysed.{Analysed}
 use Rattle.promises.specs.Coincide.{Renumbering, Renumbered, Coincide}
-use Rattle.analyser.specs.declared.Analysis.{Analysis}
+use Rattle.filling.specs.declared.Analysis.{Analysis}
 use Rattle.promises.proofs.Refusals.{refusal-range}
 use Rattle.promises.proofs.Renumbering.{renumbering, match-functions, match-families}
 

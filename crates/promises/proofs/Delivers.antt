@@ -8,13 +8,14 @@ use Rattle.records.specs.Judge.{Book}
 use Rattle.records.specs.Trees.{Lawful, treeOf}
 use Rattle.records.proofs.Lawful.{lawful}
 use Rattle.listing.proofs.Join.{join-all, goes-on}
-use Rattle.analyser.specs.Memory.{Memory}
-use Rattle.analyser.specs.Analysed.{Done, Analysed}
-use Rattle.analyser.specs.Filling.{Sound}
+use Rattle.filling.specs.Memory.{Memory}
+use Rattle.filling.specs.Outcome.{Done}
+use Rattle.analyser.specs.Analysed.{Analysed}
+use Rattle.filling.specs.Filling.{Sound}
 use Rattle.promises.specs.Delivers.{Exact, Faithful, Listed, Near, Delivers}
 use Rattle.promises.specs.Reasons.{Accepted}
-use Rattle.analyser.specs.declared.Analysis.{Analysis}
-use Rattle.analyser.proofs.Tables.{read-sound}
+use Rattle.filling.specs.declared.Analysis.{Analysis}
+use Rattle.filling.proofs.Tables.{read-sound}
 use Rattle.promises.proofs.Promises.{root-function, gates-agree, functions-apart, families-apart}
 use Rattle.promises.proofs.OnTables.{list-takes, list-no-other, bracket-takes, bracket-encloses, own-answers, cuts-exactly, cuts-sorted, cuts-once, cuts-decide}
 use Rattle.promises.proofs.Serving.{serves, hands-on}

@@ -31,11 +31,11 @@ use Rattle.listing.specs.Joined.{Joined}
 use Rattle.listing.proofs.Join.{join, join-all}
 use Rattle.bracket.specs.Bracketed as bracket
 use Rattle.bracket.proofs.Outcome.{encloses-built}
-use Rattle.analyser.specs.Memory.{Memory, capacity}
-use Rattle.analyser.specs.Analysed.{Done}
-use Rattle.analyser.specs.Filling.{Sound}
+use Rattle.filling.specs.Memory.{Memory, capacity}
+use Rattle.filling.specs.Outcome.{Done}
+use Rattle.filling.specs.Filling.{Sound}
 use Rattle.promises.specs.Delivers.{Own}
-use Rattle.analyser.specs.declared.Analysis.{Analysis}
+use Rattle.filling.specs.declared.Analysis.{Analysis}
 use Rattle.promises.proofs.Promises.{root-function}
 use Rattle.promises.proofs.Telling.{bytes-tell}
 

@@ -10,7 +10,7 @@ use Rattle.records.specs.Answers.{verdict}
 use Rattle.records.specs.Judge.{Book, accept, refuse, outcome}
 use Rattle.records.specs.Trees.{treeOf}
 use Rattle.records.specs.declared.Answer.{Answer}
-use Rattle.analyser.specs.Memory.{Memory, Lengths, capacity}
+use Rattle.filling.specs.Memory.{Memory, Lengths, capacity}
 
 abbrev pub OneToEight : ℕ → Type 0
 OneToEight k = (1 ≤ k) × (k ≤ 8)

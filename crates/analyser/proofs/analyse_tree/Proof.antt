@@ -1,6 +1,6 @@
 -- `analyser::analyse_tree` meets its contract: 9, or what filling promises. Assumes nothing.
 use mathlib.Core.Path.{refl}
-use Rattle.analyser.specs.Filling.{Tried}
+use Rattle.analyser.specs.Analysed.{Tried}
 use Rattle.analyser.proofs.Flags.{denied, granted}
 use borrow.Author.Needs.{needs}
 use Rattle.analyser.proofs.analyse_tree.Statement.{statement}

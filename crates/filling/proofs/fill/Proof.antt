@@ -1,10 +1,10 @@
--- `analyser::filling::fill` meets its contract: what the builders promise comes to 10, 11, or done. Assumes nothing.
+-- `filling::fill` meets its contract: what the builders promise comes to 10, 11, or done. Assumes nothing.
 use mathlib.Core.Path.{refl, sym, _∙_}
 use native.Mathlib.Omega.{arith}
-use Rattle.analyser.proofs.Tables.{read-arrays, read-sizes, read-is-sound, read-lengths, build-areas, whole-in, over-in, nodes-are-full, nodes-do-fit}
+use Rattle.filling.proofs.Tables.{read-arrays, read-sizes, read-is-sound, read-lengths, build-areas, whole-in, over-in, nodes-are-full, nodes-do-fit}
 use borrow.Author.Needs.{needs}
-use Rattle.analyser.proofs.filling.fill.Statement.{statement}
-use Rattle.analyser.proofs.filling.fill.Tie as tie
+use Rattle.filling.proofs.fill.Statement.{statement}
+use Rattle.filling.proofs.fill.Tie as tie
 
 slice-aggregate-build : tie.Need-slice-aggregate-build
 slice-aggregate-build c = search needs

@@ -1,15 +1,38 @@
-// The two tables of a tree that was read: 10, 11, or done.
-use crate::Analysis;
-use crate::refused;
+// The two tables of a tree that was read, in memory whose lengths are right: 10, 11, or done.
 use build::Finish;
 use records::Tree;
 use store::Built;
 use tables::clear;
 ghost use Prim.Native.Nat.{_+_};
-ghost use Rattle.analyser.specs.Memory.{memory, Lengths, AllZero};
-ghost use Rattle.analyser.specs.Filling.{treeIn, WasRead, Settled, Grounded, FillsCuts, Filled};
+ghost use Rattle.filling.specs.Outcome.{Refused, at};
+ghost use Rattle.filling.specs.Memory.{memory, Lengths, AllZero};
+ghost use Rattle.filling.specs.Filling.{treeIn, WasRead, Settled, Grounded, FillsCuts, Filled};
 ghost use Rattle.paper.specs.Trees as paper;
 ghost use lib.ListN.{length};
+
+// What an analysis answers: its number and place, the counts of both tables and both roots.
+pub struct Analysis {
+    pub number: u8,
+    pub place: usize,
+    pub nodes: usize,
+    pub cut_nodes: usize,
+    pub root: usize,
+    pub cut_root: usize,
+}
+
+// A refusal: all but its number and place is zero.
+pub fn refused(number: u8, place: usize) -> Analysis
+    ensures { λ r. ⌜ Refused (at number place) r ⌝ }
+{
+    Analysis {
+        number,
+        place,
+        nodes: 0,
+        cut_nodes: 0,
+        root: 0,
+        cut_root: 0,
+    }
+}
 
 // All that was lent becomes zero, to the last number.
 fn wipe(

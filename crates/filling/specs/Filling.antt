@@ -15,9 +15,9 @@ use Rattle.records.specs.Trees.{Lawful}
 use Rattle.records.specs.declared.Event.{Event}
 use Rattle.records.specs.declared.Tree.{Tree}
 use Rattle.build.specs.Finishing.{Whole}
-use Rattle.analyser.specs.Memory.{Memory, capacity, Zero, AllZero, Lengths}
-use Rattle.analyser.specs.Analysed.{Refused, at, Done}
-use Rattle.analyser.specs.declared.Analysis.{Analysis}
+use Rattle.filling.specs.Memory.{Memory, capacity, Zero, AllZero, Lengths}
+use Rattle.filling.specs.Outcome.{Refused, at, Done}
+use Rattle.filling.specs.declared.Analysis.{Analysis}
 
 -- the tree that an array holds, as the paper has it
 unfoldable pub treeIn : Tree → paper.Tree
@@ -70,8 +70,3 @@ FillsCuts m root c m′ a = (t : paper.Tree) → Ground t m root c → CutsFille
 pub data Filled (t : paper.Tree) (m m′ : Memory) (a : Analysis) : Type 0 where
   nodes-full : NodesFull t (capacity (m .nodes)) → Refused (at 10 0) a → AllZero m m′ → Filled t m m′ a
   nodes-fit : (NodesFull t (capacity (m .nodes)) → ⊥) → CutsFilled t m m′ a → Filled t m m′ a
-
--- the tree was read: 9, or both tables
-pub data Tried (tree : Tree) (m m′ : Memory) (a : Analysis) : Type 0 where
-  bad-length : (Lengths (tree .«gate_count») m → ⊥) → Refused (at 9 0) a → m′ ≡ m → Tried tree m m′ a
-  filled : Lengths (tree .«gate_count») m → Filled (treeIn tree) m m′ a → Tried tree m m′ a

@@ -31,12 +31,12 @@ use Rattle.build.proofs.Meaning.{gate-shows, root-number, whole-lent}
 use Rattle.without.specs.Reading.{Readable}
 use Rattle.cuts.specs.Cutting.{cutNodes, CutTable, Room}
 use Rattle.cuts.proofs.Promises.{lent-readable, short-needs, done-needs, done-fits, done-list, done-lent}
-use Rattle.analyser.specs.Memory.{Memory, capacity, Zero, AllZero, Lengths}
-use Rattle.analyser.specs.Memory.{memory as areas}
-use Rattle.analyser.specs.Analysed.{Refused, at, Done}
-use Rattle.analyser.specs.Filling.{treeIn, WasRead, Sound, Ground, Settled, CutsFilled, Filled}
-use Rattle.analyser.specs.declared.Analysis.{Analysis}
-use Rattle.analyser.proofs.Holding.{whole-holds, table-holds}
+use Rattle.filling.specs.Memory.{Memory, capacity, Zero, AllZero, Lengths}
+use Rattle.filling.specs.Memory.{memory as areas}
+use Rattle.filling.specs.Outcome.{Refused, at, Done}
+use Rattle.filling.specs.Filling.{treeIn, WasRead, Sound, Ground, Settled, CutsFilled, Filled}
+use Rattle.filling.specs.declared.Analysis.{Analysis}
+use Rattle.filling.proofs.Holding.{whole-holds, table-holds}
 
 -- ---- the node table is finished
 

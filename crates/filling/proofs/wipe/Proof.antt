@@ -1,7 +1,7 @@
--- `analyser::filling::wipe` meets its contract: each area is cleared. Assumes nothing.
+-- `filling::wipe` meets its contract: each area is cleared. Assumes nothing.
 use borrow.Author.Needs.{needs}
-use Rattle.analyser.proofs.filling.wipe.Statement.{statement}
-use Rattle.analyser.proofs.filling.wipe.Tie as tie
+use Rattle.filling.proofs.wipe.Statement.{statement}
+use Rattle.filling.proofs.wipe.Tie as tie
 
 clear-requires : tie.Need-clear-requires
 clear-requires c κs = search needs
