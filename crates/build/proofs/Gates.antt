@@ -15,10 +15,10 @@ use Rattle.paper.specs.Steps.{valuesFrom, stepsFrom}
 use Rattle.paper.specs.Diagrams.{Diagram, leaf}
 use Rattle.algebra.specs.Operations.{joinD, eventD, gateDiagrams, stepDiagrams}
 use Rattle.store.specs.declared.Built.{Built}
-use Rattle.build.specs.Rules.{valueD, stepsD}
+use Rattle.gates.specs.Rules.{valueD, stepsD}
 use Rattle.paper.specs.Flat.{inputOf, gateOf, gatesOf}
-use Rattle.build.specs.Memory.{startOf, gateAt, Plan, Own}
-use Rattle.build.specs.Making.{Gains}
+use Rattle.build.specs.Memory.{startOf, gateAt, Plan}
+use Rattle.gates.specs.Making.{Own, Gains}
 
 -- ---- in memory
 

@@ -23,14 +23,14 @@ use Rattle.store.proofs.Denotes.{found-grown}
 use Rattle.store.proofs.Building.{step-more, only-none, only-step, only-more, lacks-more, tidy-none}
 use Rattle.store.proofs.Counting.{nodes-done, nodes-full}
 use Rattle.store.proofs.Zeros.{zero-at, store-cleared, memo-cleared}
-use Rattle.build.specs.Rules.{valueD, stepsD}
+use Rattle.gates.specs.Rules.{valueD, stepsD}
 use Rattle.paper.specs.Flat.{gatesOf}
 use Rattle.build.specs.Memory.{startOf, gateAt}
-use Rattle.build.specs.Making.{All, Within, Gained}
+use Rattle.gates.specs.Making.{All, Within, Gained}
 use Rattle.build.specs.Finishing.{Areas, Sofar, Whole, TooMany, Finishes}
 use Rattle.build.specs.declared.Finish.{Finish}
-use Rattle.build.proofs.Making.{found-0, all-none, all-append, all-grown, part-more}
-use Rattle.build.proofs.ByKind.{value-same, steps-same}
+use Rattle.gates.proofs.Making.{found-0, all-none, all-append, all-grown, part-more}
+use Rattle.gates.proofs.ByKind.{value-same, steps-same}
 use Rattle.build.proofs.Gates.{gates-length, gates-next, sum-next, diagrams-next, steps-next, diagrams-length}
 
 -- ---- before the first gate

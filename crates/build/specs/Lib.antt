@@ -1,5 +1,3 @@
--- A tree in memory, its steps as diagrams, and what building them answers.
-pub mod Rules
+-- A tree in memory, and what building its gates answers.
 pub mod Memory
-pub mod Making
 pub mod Finishing

@@ -28,12 +28,6 @@ pub record Plan (kinds leasts sizes inputs : List ℕ) : Type 0 where
   pub least : (g : ℕ) → g < length sizes → getD leasts g 0 ≤ getD sizes g 0
   pub earlier : (g j : ℕ) → g < length sizes → j < getD sizes g 0 → getD inputs (startOf sizes g + j) 0 < gatesFrom + g
 
--- the inputs of one gate, after so many gates
-pub record Own (gates own : List ℕ) : Type 0 where
-  pub some : 1 ≤ length own
-  pub few : length own ≤ limits .inputs
-  pub earlier : (j : ℕ) → j < length own → getD own j 0 < gatesFrom + length gates
-
 -- the arrays of a tree that was read
 pub record Arrays (t : Tree) : Type 0 where
   pub few-gates : t .«gate_count» ≤ limits .gates

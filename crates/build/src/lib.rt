@@ -1,129 +1,22 @@
-// The diagrams of a tree's gates in one table, gate by gate: an event is made where a gate first uses it, inputs are joined two at a time, and at-least
-// goes by the pairs that its rule reaches.
-mod inputs; // the nodes of a gate's inputs
-mod least; // at least k of n
-
-use inputs::input_nodes;
-use joins::join;
-use least::at_least;
-use paper::INPUTS;
+// The diagrams of a tree's gates in one table, gate by gate.
 use store::Built;
 use tables::clear;
 ghost use mathlib.Core.Path.{_≡_};
 ghost use mathlib.Core.List.{map};
 ghost use Prim.Native.Nat.{_+_, _/_, _<_, _≤_};
 ghost use lib.ListN.{length};
-ghost use Rattle.paper.specs.Limits.{limits};
 ghost use Rattle.tables.specs.Table.{den};
 ghost use Rattle.store.specs.Memo.{Places};
-ghost use Rattle.joins.specs.Joins.{bit};
-ghost use Rattle.build.specs.Rules.{joinAllD, joinStepsD, valueD, stepsD, kindD, kindStepsD};
-ghost use Rattle.paper.specs.Flat.{inputOf, gateOf, gatesOf};
-ghost use Rattle.build.specs.Memory.{startOf, gateAt, Plan, Own};
-ghost use Rattle.build.specs.Making.{Within, Held, Gains};
+ghost use Rattle.gates.specs.Rules.{valueD, stepsD};
+ghost use Rattle.paper.specs.Flat.{gatesOf};
+ghost use Rattle.build.specs.Memory.{startOf, gateAt, Plan};
+ghost use Rattle.gates.specs.Making.{Within, Held, Gains};
 ghost use Rattle.build.specs.Finishing.{Areas, Sofar, Finishes};
-
-// The count of nodes after some steps; or the table is full.
-pub enum Count {
-    To(usize),
-    Full(usize),
-}
 
 // All gates are built: the root's node and the count of nodes; or the gate at which the table was full.
 pub enum Finish {
     Complete(u32, usize),
     Over(usize),
-}
-
-// Kinds of gates; any other is at-least.
-const AND: u8 = 2;
-
-const OR: u8 = 3;
-
-// The inputs xs joined from left to right: and with z 0, or with z 1.
-fn joined(
-    nodes: &mut [u32],
-    heads: &mut [u32],
-    next: &mut [u32],
-    memo: &mut [u32],
-    xs: &[u32],
-    count: usize,
-    z: u32,
-) -> Built
-    requires { ⌜ Held (now nodes) (now heads) (now next) (now memo) count ⌝ }
-    requires { ⌜ Within count (now xs) ⌝ }
-    requires { ⌜ 1 ≤ length (now xs) ⌝ }
-    requires { ⌜ z < 2 ⌝ }
-    ensures { λ r. ⌜ Gains (joinStepsD (bit z) (map (den (now (nodes .entry))) (now (xs .entry)))) (joinAllD (bit z) (map (den (now (nodes .entry))) (now (xs .entry)))) (now (nodes .entry)) count (now (nodes .exit)) (now (heads .exit)) (now (next .exit)) (now (memo .exit)) r ⌝ }
-{
-    let mut r = xs[0];
-    let mut used = count;
-    let mut i = 1;
-    while i < xs.len() {
-        match join(nodes, heads, next, memo, used, z, r, xs[i]) {
-            Built::Done(node, to) => {
-                r = node;
-                used = to;
-            }
-            Built::Short(to) => return Built::Short(to),
-        }
-        i += 1;
-    }
-    Built::Done(r, used)
-}
-
-// The node of a gate over the nodes xs of its inputs.
-fn combined(
-    nodes: &mut [u32],
-    heads: &mut [u32],
-    next: &mut [u32],
-    memo: &mut [u32],
-    xs: &[u32],
-    count: usize,
-    kind: u8,
-    k: u8,
-) -> Built
-    requires { ⌜ Held (now nodes) (now heads) (now next) (now memo) count ⌝ }
-    requires { ⌜ Within count (now xs) ⌝ }
-    requires { ⌜ 1 ≤ length (now xs) ⌝ }
-    requires { ⌜ k ≤ limits .inputs ⌝ }
-    ensures { λ r. ⌜ Gains (kindStepsD kind k (map (den (now (nodes .entry))) (now (xs .entry)))) (kindD kind k (map (den (now (nodes .entry))) (now (xs .entry)))) (now (nodes .entry)) count (now (nodes .exit)) (now (heads .exit)) (now (next .exit)) (now (memo .exit)) r ⌝ }
-{
-    if kind == AND {
-        return joined(nodes, heads, next, memo, xs, count, 0);
-    }
-    if kind == OR {
-        return joined(nodes, heads, next, memo, xs, count, 1);
-    }
-    at_least(nodes, heads, next, memo, xs, count, k as usize)
-}
-
-// The node of a gate with these inputs; `gates` has the nodes of the gates before.
-fn gate_node(
-    nodes: &mut [u32],
-    heads: &mut [u32],
-    next: &mut [u32],
-    memo: &mut [u32],
-    gates: &[u32],
-    inputs: &[u16],
-    count: usize,
-    kind: u8,
-    k: u8,
-) -> Built
-    requires { ⌜ Held (now nodes) (now heads) (now next) (now memo) count ⌝ }
-    requires { ⌜ Within count (now gates) ⌝ }
-    requires { ⌜ Own (now gates) (now inputs) ⌝ }
-    requires { ⌜ k ≤ limits .inputs ⌝ }
-    ensures { λ r. ⌜ Gains (stepsD (map (den (now (nodes .entry))) (now (gates .entry))) (gateOf kind k (map inputOf (now (inputs .entry))))) (valueD (map (den (now (nodes .entry))) (now (gates .entry))) (gateOf kind k (map inputOf (now (inputs .entry))))) (now (nodes .entry)) count (now (nodes .exit)) (now (heads .exit)) (now (next .exit)) (now (memo .exit)) r ⌝ }
-{
-    let mut row = [0u32; INPUTS];
-    match input_nodes(nodes, heads, next, gates, inputs, &mut row, count) {
-        Count::To(used) => {
-            let n = inputs.len();
-            combined(nodes, heads, next, memo, &row[..n], used, kind, k)
-        }
-        Count::Full(used) => Built::Short(used),
-    }
 }
 
 // The node of gate g of a tree, whose inputs start at `at`.
@@ -150,7 +43,7 @@ fn next_gate(
     ensures { λ r. ⌜ Gains (stepsD (map (den (now (nodes .entry))) (now (gates .entry))) (gateAt (now (kinds .entry)) (now (leasts .entry)) (now (sizes .entry)) (now (inputs .entry)) g)) (valueD (map (den (now (nodes .entry))) (now (gates .entry))) (gateAt (now (kinds .entry)) (now (leasts .entry)) (now (sizes .entry)) (now (inputs .entry)) g)) (now (nodes .entry)) count (now (nodes .exit)) (now (heads .exit)) (now (next .exit)) (now (memo .exit)) r ⌝ }
 {
     let end = at + sizes[g] as usize;
-    gate_node(
+    gates::gate_node(
         nodes,
         heads,
         next,

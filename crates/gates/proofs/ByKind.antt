@@ -1,0 +1,137 @@
+-- A gate by its kind.
+-- Assumes nothing.
+use mathlib.Core.Path.{_≡_, refl, sym, ap, ap₂, _∙_, subst, subst₂}
+use mathlib.Core.Logic.{_≢_}
+use mathlib.Core.Bool.{Bool, true, false, cond}
+use mathlib.Core.List.{List, [], _∷_, _++_, map}
+use Prim.Native.Nat.{ℕ, suc, _≤_}
+use native.Mathlib.Omega.{arith}
+use lib.Dec.{eqb}
+use lib.ListN.{length, getD, take}
+use lib.Seq.{getD-take, length-take-le}
+use borrow.Author.Tests.{eq-eqb, ne-eqb}
+use Rattle.paper.specs.Lists.{In}
+use Rattle.paper.specs.Trees.{Input, event, gate, Gate, andG, orG, leastG}
+use Rattle.paper.specs.Diagrams.{Diagram, leaf}
+use Rattle.gates.specs.Rules.{joinAllD, joinStepsD, leastD, leastStepsD, inputD, eventStepsD, valueD, stepsD, kindD, kindStepsD}
+use Rattle.algebra.proofs.Lists.{in-left}
+use Rattle.tables.specs.Table.{den}
+use Rattle.store.specs.Building.{PartOf, Found, Stops}
+use Rattle.store.specs.declared.Built.{Built}
+use Rattle.store.specs.declared.Built.the-variants.{Done, Short}
+use Rattle.store.proofs.Building.{stops-more}
+use Rattle.store.proofs.Memory.{memo-map}
+use Rattle.joins.proofs.Recursion.{right-grown}
+use Rattle.paper.specs.Flat.{inputOf, gateOf}
+use Rattle.gates.specs.Making.{Own}
+use Rattle.gates.specs.Making.{Row, Within, Held, Gains, Lined}
+use Rattle.gates.proofs.Making.{row-map, made-seq, made-stops, part-more}
+use Rattle.gates.proofs.Rows.{codes-long, events-tidy}
+
+module _ (gs : List Diagram) (kind k : ℕ) (is : List Input) where
+  pub value-kind : valueD gs (gateOf kind k is) ≡ kindD kind k (map (inputD gs) is)
+  value-kind = go (eqb kind 2) (eqb kind 3)
+    where
+      go : (a b : Bool) → valueD gs (cond a (andG is) (cond b (orG is) (leastG k is)))
+          ≡ cond a (joinAllD false (map (inputD gs) is)) (cond b (joinAllD true (map (inputD gs) is)) (leastD k (map (inputD gs) is)))
+      go true b = refl
+      go false true = refl
+      go false false = refl
+
+  pub steps-kind : stepsD gs (gateOf kind k is) ≡ eventStepsD is ++ kindStepsD kind k (map (inputD gs) is)
+  steps-kind = go (eqb kind 2) (eqb kind 3)
+    where
+      go : (a b : Bool) → stepsD gs (cond a (andG is) (cond b (orG is) (leastG k is)))
+          ≡ eventStepsD is ++ cond a (joinStepsD false (map (inputD gs) is)) (cond b (joinStepsD true (map (inputD gs) is)) (leastStepsD k (map (inputD gs) is)))
+      go true b = refl
+      go false true = refl
+      go false false = refl
+
+-- gates before that are the same, one by one
+module _ (gs hs : List Diagram) (same : (i : ℕ) → getD gs i (leaf false) ≡ getD hs i (leaf false)) where
+  inputs-same : (is : List Input) → map (inputD gs) is ≡ map (inputD hs) is
+  inputs-same [] = refl
+  inputs-same (event e ∷ is) = ap (inputD gs (event e) ∷_) (inputs-same is)
+  inputs-same (gate i ∷ is) = ap₂ _∷_ (same i) (inputs-same is)
+
+  pub value-same : (g : Gate) → valueD gs g ≡ valueD hs g
+  value-same (andG is) = ap (joinAllD false) (inputs-same is)
+  value-same (orG is) = ap (joinAllD true) (inputs-same is)
+  value-same (leastG k is) = ap (leastD k) (inputs-same is)
+
+  pub steps-same : (g : Gate) → stepsD gs g ≡ stepsD hs g
+  steps-same (andG is) = ap (λ xs. eventStepsD is ++ joinStepsD false xs) (inputs-same is)
+  steps-same (orG is) = ap (λ xs. eventStepsD is ++ joinStepsD true xs) (inputs-same is)
+  steps-same (leastG k is) = ap (λ xs. eventStepsD is ++ leastStepsD k xs) (inputs-same is)
+
+-- ---- what the code makes of each kind
+
+module _ (kind k : ℕ) (ds : List Diagram) (T : List ℕ) (c : ℕ) (T′ H′ X′ M′ : List ℕ) (r : Built) where
+  pub gains-and : kind ≡ 2 → Gains (joinStepsD false ds) (joinAllD false ds) T c T′ H′ X′ M′ r → Gains (kindStepsD kind k ds) (kindD kind k ds) T c T′ H′ X′ M′ r
+  gains-and e g = rw (eq-eqb kind 2 e) g
+
+  pub gains-or : kind ≢ 2 → kind ≡ 3 → Gains (joinStepsD true ds) (joinAllD true ds) T c T′ H′ X′ M′ r → Gains (kindStepsD kind k ds) (kindD kind k ds) T c T′ H′ X′ M′ r
+  gains-or n e g = rw (ne-eqb kind 2 n, eq-eqb kind 3 e) g
+
+  pub gains-least : kind ≢ 2 → kind ≢ 3 → Gains (leastStepsD k ds) (leastD k ds) T c T′ H′ X′ M′ r → Gains (kindStepsD kind k ds) (kindD kind k ds) T c T′ H′ X′ M′ r
+  gains-least n m g = rw (ne-eqb kind 2 n, ne-eqb kind 3 m) g
+
+-- ---- a gate: its inputs, then its kind
+
+module _ {T H X M : List ℕ} {c : ℕ} (G own : List ℕ) (h : Held T H X M c) (w : Own G own) {T₁ H₁ X₁ R : List ℕ} {c₁ : ℕ}
+    (a : Lined (map (den T) G) (map inputOf own) T c T₁ H₁ X₁ R c₁) where
+  abbrev gs : List Diagram
+  gs = map (den T) G
+
+  abbrev is : List Input
+  is = map inputOf own
+
+  pub gate-held : Held T₁ H₁ X₁ M c₁
+  gate-held = record {
+    store = a .made .step .store;
+    tidy = events-tidy is (h .store) (h .tidy) (a .made);
+    memo = memo-map (right-grown (h .store .lower) (a .made .step .grown)) (h .memo);
+  }
+
+  inputs-long : (is : List Input) → length (map (inputD gs) is) ≡ length is
+  inputs-long [] = refl
+  inputs-long (i ∷ is) = ap suc (inputs-long is)
+
+  long : length (map (inputD gs) is) ≡ length own
+  long = inputs-long is ∙ codes-long own
+
+  pub row-fits : length own ≤ length R
+  row-fits = let e = a .long in let f = w .few in omega arith
+
+  pub row-long : length (take (length own) R) ≡ length own
+  row-long = length-take-le (length own) R row-fits
+
+  row : Row T₁ c₁ (map (inputD gs) is) (take (length own) R)
+  row = record { each = λ j l. subst (Found T₁ c₁ (getD (map (inputD gs) is) j (leaf false))) (sym (getD-take (length own) R j 0 (let e = long in omega arith))) (a .row .each j l) }
+
+  pub row-some : 1 ≤ length (take (length own) R)
+  row-some = let e = row-long in let s = w .some in omega arith
+
+  pub row-within : Within c₁ (take (length own) R)
+  row-within = record { each = λ j l. row .each j (let e = row-long in let f = long in omega arith) .within }
+
+  is-row : map (den T₁) (take (length own) R) ≡ map (inputD gs) is
+  is-row = row-map (row-long ∙ sym long) row
+
+  module _ (kind k : ℕ) where
+    pub gate-gains : (T₂ H₂ X₂ M₂ : List ℕ) (r : Built)
+        → Gains (kindStepsD kind k (map (den T₁) (take (length own) R))) (kindD kind k (map (den T₁) (take (length own) R))) T₁ c₁ T₂ H₂ X₂ M₂ r
+        → Gains (stepsD gs (gateOf kind k is)) (valueD gs (gateOf kind k is)) T c T₂ H₂ X₂ M₂ r
+    gate-gains T₂ H₂ X₂ M₂ r g =
+        subst₂ (λ ds D. Gains ds D T c T₂ H₂ X₂ M₂ r) (sym (steps-kind gs kind k is)) (sym (value-kind gs kind k is))
+        (go r (subst (λ ds. Gains (kindStepsD kind k ds) (kindD kind k ds) T₁ c₁ T₂ H₂ X₂ M₂ r) is-row g))
+      where
+        go : (r : Built) → Gains (kindStepsD kind k (map (inputD gs) is)) (kindD kind k (map (inputD gs) is)) T₁ c₁ T₂ H₂ X₂ M₂ r
+            → Gains (eventStepsD is ++ kindStepsD kind k (map (inputD gs) is)) (kindD kind k (map (inputD gs) is)) T c T₂ H₂ X₂ M₂ r
+        go (Done r c₂) g = record { made = made-seq (kindStepsD kind k (map (inputD gs) is)) (a .made) (g .made); held = g .held; found = g .found }
+        go (Short c₂) g = made-stops (kindStepsD kind k (map (inputD gs) is)) (a .made) g
+
+-- an event of its inputs does not fit
+pub gate-short : (gs : List Diagram) (kind k : ℕ) (is : List Input) {T : List ℕ} {c : ℕ} {T₁ H₁ X₁ : List ℕ} {c₁ : ℕ}
+    → Stops (PartOf (eventStepsD is)) T c T₁ H₁ X₁ c₁ → Stops (PartOf (stepsD gs (gateOf kind k is))) T c T₁ H₁ X₁ c₁
+gate-short gs kind k is s = stops-more (part-more (λ d h. subst (λ ds. In d ds) (sym (steps-kind gs kind k is)) (in-left d (eventStepsD is) (kindStepsD kind k (map (inputD gs) is)) h))) s

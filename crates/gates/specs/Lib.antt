@@ -1,0 +1,3 @@
+-- The steps of a gate as diagrams, and what making them answers.
+pub mod Rules
+pub mod Making
