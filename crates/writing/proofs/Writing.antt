@@ -10,12 +10,12 @@ use Rattle.paper.specs.Limits.{limits}
 use Rattle.records.specs.Answers.{verdict}
 use Rattle.records.specs.Judge.{Outcome, accept, refuse, answerOf, outcome}
 use Rattle.writing.specs.Bytes.{bytesOf, writeOf, wrote}
-use Rattle.writing.specs.Inner.{Accepted}
+use Rattle.writing.specs.Inner.{Accepted, Surveyed}
 use Rattle.records.specs.declared.Answer.{Answer}
 use Rattle.records.specs.declared.Answer.the-variants.{Done, Cut, UnknownKind, OutOfPlace, Count, Threshold, Reference, Chance, Unused, Room}
 use Rattle.records.specs.declared.Tree.{Tree}
 
-pub done-is : (a : Answer) → verdict a .number ≡ 0 → a ≡ Done
+done-is : (a : Answer) → verdict a .number ≡ 0 → a ≡ Done
 done-is Done e = refl
 done-is (Cut p) e = absurd (omega arith)
 done-is (UnknownKind p) e = absurd (omega arith)
@@ -44,3 +44,18 @@ module _ (t : Tree) (room : List ℕ) where
       go : (o : Outcome) → outcome limits (bytesOf t) ≡ o → wrote a 0 room ≡ writeOf limits t room
       go (accept b) q = absurd (d (ap (λ (x : Answer). verdict x .number) (e ∙ ap answerOf q)))
       go (refuse x) q = rw (q, writeOf) (ap (λ (y : Answer). wrote y 0 room) (e ∙ ap answerOf q))
+
+-- the same of a tree that is surveyed and has no fault
+module _ {t : Tree} {a : Answer} {n : ℕ} (v : Surveyed t a n) (done : verdict a .number ≡ 0) where
+  is-done : a ≡ Done
+  is-done = done-is a done
+
+  pub done-fits : {m : ℕ} → n ≤ m → Accepted t × (length (bytesOf t) ≤ m)
+  done-fits h = (v .accepted is-done, omega (arith, v .bytes is-done))
+
+  module _ (room : List ℕ) where
+    pub done-short : length room < n → wrote Room 0 room ≡ writeOf limits t room
+    done-short h = writes-short t room (v .accepted is-done) (omega (arith, v .bytes is-done))
+
+    pub done-writes : n ≤ length room → {new : List ℕ} → new ≡ bytesOf t ++ drop (length (bytesOf t)) room → wrote a n new ≡ writeOf limits t room
+    done-writes h d = let (ok, fits) = done-fits h in rw is-done (writes-done t room ok fits (v .bytes is-done) d)

@@ -1,9 +1,8 @@
--- `records::write` meets its contract.
+-- `writing::write` meets its contract.
 -- Assumes nothing.
 use mathlib.Core.Path.{sym, _∙_}
-use native.Mathlib.Omega.{arith}
 use denote.Ref.{now}
-use Rattle.writing.proofs.Writing.{done-is, writes-short, writes-done, writes-refused}
+use Rattle.writing.proofs.Writing.{writes-refused, done-fits, done-short, done-writes}
 use borrow.Author.Needs.{needs}
 use Rattle.writing.proofs.write.Statement.{statement}
 use Rattle.writing.proofs.write.Tie as tie
@@ -18,16 +17,16 @@ unwritten-requires : tie.Need-unwritten-requires
 unwritten-requires c κs = search needs
 
 returns : tie.Need-returns
-returns c = let d = done-is (c .before .before .before .before .survey .result .answer) (sym (c .before .before .before .number .ensures) ∙ c .before .before .if1 .taken) in rw (c .unwritten .ensures .0, c .unwritten .ensures .1) (writes-short _ _ (c .before .before .before .before .survey .ensures .accepted d) (omega (arith, c .before .before .before .before .survey .ensures .bytes d)))
+returns c = rw (c .unwritten .ensures .0, c .unwritten .ensures .1) (done-short (c .before .before .before .before .survey .ensures) (sym (c .before .before .before .number .ensures) ∙ c .before .before .if1 .taken) _ (c .before .if2 .taken))
 
 emit-requires : tie.Need-emit-requires
-emit-requires c κs = let d = done-is (c .before .before .before .before .survey .result .answer) (sym (c .before .before .before .number .ensures) ∙ c .before .before .if1 .taken) in ((c .before .before .before .before .survey .ensures .accepted d), (omega (arith, c .before .before .before .before .survey .ensures .bytes d)))
+emit-requires c κs = done-fits (c .before .before .before .before .survey .ensures) (sym (c .before .before .before .number .ensures) ∙ c .before .before .if1 .taken) (c .before .if2 .left)
 
 same-length : tie.Need-same-length
 same-length c = search needs
 
 returns-2 : tie.Need-returns-2
-returns-2 c = let d = done-is (c .before .before .before .before .before .before .before .survey .result .answer) (sym (c .before .before .before .before .before .before .number .ensures) ∙ c .before .before .before .before .before .if1 .taken) in rw d (writes-done (c .before .before .before .before .before .before .before .before .before .args .t) (now (c .before .before .before .before .before .before .before .before .before .args .room)) (c .before .before .before .before .before .before .before .survey .ensures .accepted d) (omega (arith, c .before .before .before .before .before .before .before .survey .ensures .bytes d)) (c .before .before .before .before .before .before .before .survey .ensures .bytes d) (c .before .before .emit .ensures))
+returns-2 c = done-writes (c .before .before .before .before .before .before .before .survey .ensures) (sym (c .before .before .before .before .before .before .number .ensures) ∙ c .before .before .before .before .before .if1 .taken) _ (c .before .before .before .before .if2 .left) (c .before .before .emit .ensures)
 
 unwritten-requires-2 : tie.Need-unwritten-requires-2
 unwritten-requires-2 c κs = search needs

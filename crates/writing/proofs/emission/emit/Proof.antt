@@ -1,4 +1,4 @@
--- `records::emission::emit` meets its contract.
+-- `writing::emission::emit` meets its contract.
 -- Assumes nothing.
 use mathlib.Core.Path.{sym, _∙_}
 use Prim.Native.Nat.{_-_}

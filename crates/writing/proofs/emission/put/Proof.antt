@@ -1,4 +1,4 @@
--- `records::format::put` meets its contract.
+-- `writing::emission::put` meets its contract.
 -- Assumes nothing.
 use denote.Ref.{now}
 use mathlib.Core.Path.{refl}

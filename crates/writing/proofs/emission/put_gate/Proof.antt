@@ -1,4 +1,4 @@
--- `records::format::put_gate` meets its contract.
+-- `writing::emission::put_gate` meets its contract.
 -- Assumes nothing.
 use denote.Ref.{now}
 use native.Mathlib.Omega.{arith}

@@ -1,4 +1,4 @@
--- `records::format::gate_record` meets its contract.
+-- `writing::survey::gate_record` meets its contract.
 -- Assumes nothing.
 use borrow.Author.Tests.{ne-eqb}
 use Rattle.writing.proofs.Coding.{own-unknown, own-and, own-or, own-least}

@@ -1,4 +1,4 @@
--- `records::format::input_record` meets its contract.
+-- `writing::survey::input_record` meets its contract.
 -- Assumes nothing.
 use borrow.Author.Tests.{lt-ltb, le-ltb}
 use Rattle.writing.proofs.Coding.{own-event-input, own-gate-input}

@@ -1,4 +1,4 @@
--- `records::survey::survey` meets its contract.
+-- `writing::survey::survey` meets its contract.
 -- Assumes nothing.
 use mathlib.Core.Path.{sym, _∙_}
 use Prim.Native.Nat.{_-_}

@@ -1,4 +1,4 @@
--- `records::survey::surveyed` meets its contract.
+-- `writing::survey::surveyed` meets its contract.
 -- Assumes nothing.
 use mathlib.Core.Path.{refl}
 use borrow.Author.Needs.{needs}

@@ -1,4 +1,4 @@
--- `records::survey::tree_record` meets its contract.
+-- `writing::survey::tree_record` meets its contract.
 -- Assumes nothing.
 use borrow.Author.Needs.{needs}
 use borrow.Author.Tests.{lt-ltb, le-ltb}
