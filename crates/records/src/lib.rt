@@ -1,5 +1,5 @@
 // Tree records: any bytes judged by the paper's rules and read into a tree in memory.
-pub mod format; // the records: what stands at the front of some bytes, and a record's bytes
+pub mod format; // the records: what stands at the front of some bytes
 pub mod judge; // what a record does at a place of the reading: numbers 1 to 7
 pub mod uses; // the search for an item that is an input nowhere: number 8
 

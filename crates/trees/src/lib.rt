@@ -1,2 +1,2 @@
-// What holds of every tree that is read or written: its rules, its longest bytes, which bytes decide, and that each of reading and writing undoes the other.
+// Theorems about trees that are read and written: what an accepted tree keeps to, how many bytes decide, and that reading and writing undo each other.
 pub fn nothing() {}

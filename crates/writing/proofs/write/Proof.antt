@@ -1,6 +1,7 @@
 -- `writing::write` meets its contract.
 -- Assumes nothing.
 use mathlib.Core.Path.{sym, _∙_}
+use native.Mathlib.Omega.{arith}
 use denote.Ref.{now}
 use Rattle.writing.proofs.Writing.{writes-refused, done-fits, done-short, done-writes}
 use borrow.Author.Needs.{needs}
@@ -17,10 +18,10 @@ unwritten-requires : tie.Need-unwritten-requires
 unwritten-requires c κs = search needs
 
 returns : tie.Need-returns
-returns c = rw (c .unwritten .ensures .0, c .unwritten .ensures .1) (done-short (c .before .before .before .before .survey .ensures) (sym (c .before .before .before .number .ensures) ∙ c .before .before .if1 .taken) _ (c .before .if2 .taken))
+returns c = rw (c .unwritten .ensures .0, c .unwritten .ensures .1) (done-short (c .before .before .before .before .survey .ensures) (sym (c .before .before .before .number .ensures) ∙ c .before .before .if1 .taken) (now (c .before .before .before .before .before .before .args .room)) (omega (arith, c .before .if2 .taken)))
 
 emit-requires : tie.Need-emit-requires
-emit-requires c κs = done-fits (c .before .before .before .before .survey .ensures) (sym (c .before .before .before .number .ensures) ∙ c .before .before .if1 .taken) (c .before .if2 .left)
+emit-requires c κs = done-fits (c .before .before .before .before .survey .ensures) (sym (c .before .before .before .number .ensures) ∙ c .before .before .if1 .taken) (omega (arith, c .before .if2 .left))
 
 same-length : tie.Need-same-length
 same-length c = search needs
