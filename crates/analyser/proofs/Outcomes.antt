@@ -13,7 +13,7 @@ use Rattle.records.specs.Trees.{treeOf}
 use Rattle.records.specs.declared.Answer.{Answer}
 use Rattle.records.specs.declared.Answer.the-variants.{Done, Cut, UnknownKind, OutOfPlace, Count, Threshold, Reference, Chance, Unused, Room}
 use Rattle.records.specs.declared.Reading.{Reading}
-use Rattle.records.proofs.Promises.{Good, done-is-good}
+use Rattle.trees.proofs.Promises.{Good, done-is-good}
 use Rattle.filling.specs.Memory.{Memory, Lengths}
 use Rattle.filling.specs.Outcome.{Refused, at}
 use Rattle.filling.specs.Filling.{treeIn, WasRead, CutsFilled, Filled}

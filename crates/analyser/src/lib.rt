@@ -7,12 +7,12 @@ use lengths::lengths_ok;
 use listing::Listed;
 use records::Reading;
 use records::Tree;
-use records::Written;
+use writing::Written;
 ghost use mathlib.Core.Path.{_≡_};
 ghost use Rattle.paper.specs.Limits.{limits};
 ghost use Rattle.records.specs.Judge.{outcome};
 ghost use Rattle.records.specs.Memory.{inMemory};
-ghost use Rattle.records.specs.Bytes.{wrote, writeOf};
+ghost use Rattle.writing.specs.Bytes.{wrote, writeOf};
 ghost use Rattle.listing.specs.Answers.{Answered};
 ghost use Rattle.bracket.specs.Bracketed.{Bracketed};
 ghost use Rattle.filling.specs.Memory.{memory};
@@ -30,7 +30,7 @@ pub fn read(bytes: &[u8]) -> Reading
 pub fn write(tree: Tree, room: &mut [u8]) -> Written
     ensures { λ r. ⌜ wrote (r .answer) (r .bytes) (now (room .exit)) ≡ writeOf limits tree (now (room .entry)) ⌝ }
 {
-    records::write(tree, room)
+    writing::write(tree, room)
 }
 
 // Lists the cuts of a lent cut diagram, from the beginning or after the set `s`.

@@ -7,10 +7,10 @@ use native.Mathlib.Decide.{ℕ-discrete}
 use native.Mathlib.Omega.{arith}
 use lib.ListN.{length, getD, set, replicate, length-append, List·getD-append}
 use lib.Seq.{getD-at}
-use Rattle.records.specs.Bytes.{tabulate}
+use Rattle.records.specs.Memory.{tabulate}
 use Rattle.records.specs.Memory.{pad}
 use Rattle.records.proofs.Pad.{pad-fill}
-use Rattle.records.proofs.Telling.{tabulate-▷}
+use Rattle.records.proofs.Pad.{tabulate-▷}
 
 -- of n elements the first i are those of g, and z stands in the others
 pub record Filled {A : Type 0} (g : ℕ → A) (z : A) (n : ℕ) (ys : List A) (i : ℕ) : Type 0 where

@@ -4,7 +4,7 @@ use mathlib.Core.List.{List}
 use Prim.Native.Nat.{ℕ}
 use lib.ListN.{getD}
 use Rattle.paper.specs.Limits.{limits}
-use Rattle.records.specs.Bytes.{tabulate}
+use Rattle.records.specs.Memory.{tabulate}
 use Rattle.records.specs.Memory.{noEvent}
 use Rattle.records.specs.declared.Event.{Event}
 

@@ -13,8 +13,8 @@ use Rattle.records.specs.Memory.{pad, memory, inMemory}
 use Rattle.records.specs.Trees.{Lawful}
 use Rattle.records.specs.declared.Reading.{Reading}
 use Rattle.records.proofs.Pad.{pad-take, pad-length}
-use Rattle.records.proofs.InMemory.{pad-at}
-use Rattle.records.proofs.Lawful.{lawful}
+use Rattle.trees.proofs.InMemory.{pad-at}
+use Rattle.trees.proofs.Lawful.{lawful}
 use Rattle.build.specs.Memory.{startOf, Plan, Arrays}
 
 pad-long : (n : ℕ) (xs : List ℕ) → length xs ≤ length (pad n 0 xs)

@@ -17,8 +17,8 @@ use Rattle.records.specs.declared.Event.{Event}
 use Rattle.records.specs.declared.Reading.{Reading}
 use Rattle.records.specs.declared.Tree.{Tree}
 use Rattle.records.proofs.Pad.{pad-getD}
-use Rattle.records.proofs.Lawful.{lawful, tree-events}
-use Rattle.records.proofs.Promises.{done-is-good}
+use Rattle.trees.proofs.Lawful.{lawful, tree-events}
+use Rattle.trees.proofs.Promises.{done-is-good}
 use Rattle.bracket.specs.Bracketed.{Chances}
 use Rattle.filling.specs.Memory.{Memory}
 use Rattle.filling.specs.Outcome as said

@@ -20,8 +20,8 @@ use Rattle.records.specs.Trees.{Lawful, treeOf}
 use Rattle.records.specs.declared.Event.{Event}
 use Rattle.records.specs.declared.Tree.{Tree}
 use Rattle.records.proofs.Pad.{pad-take}
-use Rattle.records.proofs.Lawful.{tree-below, tree-events, tree-gates}
-use Rattle.records.proofs.InMemory.{gates-in-memory}
+use Rattle.trees.proofs.Lawful.{tree-below, tree-events, tree-gates}
+use Rattle.trees.proofs.InMemory.{gates-in-memory}
 use Rattle.paper.specs.Flat.{gatesOf}
 use Rattle.build.specs.Memory.{Arrays}
 use Rattle.build.proofs.Reading.{arrays-memory}

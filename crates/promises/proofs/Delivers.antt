@@ -6,7 +6,7 @@ use Prim.Native.Nat.{ℕ}
 use Rattle.paper.specs.Limits.{limits}
 use Rattle.records.specs.Judge.{Book}
 use Rattle.records.specs.Trees.{Lawful, treeOf}
-use Rattle.records.proofs.Lawful.{lawful}
+use Rattle.trees.proofs.Lawful.{lawful}
 use Rattle.listing.proofs.Join.{join-all, goes-on}
 use Rattle.filling.specs.Memory.{Memory}
 use Rattle.filling.specs.Outcome.{Done}

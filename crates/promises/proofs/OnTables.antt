@@ -25,7 +25,7 @@ use Rattle.records.specs.Judge.{Book}
 use Rattle.records.specs.Memory.{noEvent}
 use Rattle.records.specs.Trees.{Lawful, treeOf}
 use Rattle.records.specs.declared.Event.{Event}
-use Rattle.records.proofs.Lawful.{tree-events}
+use Rattle.trees.proofs.Lawful.{tree-events}
 use Rattle.listing.specs.Answers.{Answered, no-diagram, beyond, short, done}
 use Rattle.listing.specs.Joined.{Joined}
 use Rattle.listing.proofs.Join.{join, join-all}

@@ -50,7 +50,7 @@ fn byte(x: u8) {
 
 fn tell(words: &[u8], t: Tree) {
     let mut room = [255u8; 4096];
-    let w = records::write(t, &mut room);
+    let w = writing::write(t, &mut room);
     let a = w.answer;
     io::write_all(1, words);
     io::write_all(1, b": ");
@@ -69,7 +69,7 @@ fn in_room(t: Tree, n: usize)
     requires { ⌜ n ≤ 4096 ⌝ }
 {
     let mut room = [255u8; 4096];
-    let w = records::write(t, &mut room[..n]);
+    let w = writing::write(t, &mut room[..n]);
     let a = w.answer;
     io::write_all(1, b"room of ");
     io::print_decimal(1, n as u64);

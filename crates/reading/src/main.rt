@@ -42,7 +42,7 @@ fn report(bytes: &[u8]) {
     if records::number(a) == 0 {
         let t = r.tree;
         let mut room = [0u8; VECTOR];
-        let w = records::write(t, &mut room);
+        let w = writing::write(t, &mut room);
         io::write_all(1, b", ");
         io::print_decimal(1, t.event_count as u64);
         io::write_all(1, b" events, ");

@@ -12,8 +12,7 @@ use Rattle.paper.specs.Flat.{gatesFrom}
 use Rattle.records.specs.Uses.{lowestUnused, unusedOf}
 use Rattle.records.specs.Judge.{Book, Outcome, refuse, accept, unusedBy, closeOf, answerOf, counts, outcome, judge}
 use Rattle.records.specs.Memory.{inMemory}
-use Rattle.records.specs.Inner.{Complete, Fronts, Held, Sized}
-use Rattle.records.specs.declared.Answer.{Answer}
+use Rattle.records.specs.Inner.{Complete, Fronts, Held}
 use Rattle.records.specs.declared.Answer.the-variants.{Done, Unused}
 use Rattle.records.specs.declared.uses.Found.{Found}
 use Rattle.records.specs.declared.uses.Found.the-variants.{At, Nothing}
@@ -104,17 +103,6 @@ pub answer-of : (o : Outcome) → inMemory o .answer ≡ answerOf o
 unfolding inMemory
 answer-of (accept b) = refl
 answer-of (refuse a) = refl
-
--- what the search leaves of the answer
-pub sized-answer : (b : Book) (f : Found) → f ≡ unusedBy b → (n : ℕ) (a : Answer) (m : ℕ) → Sized f n a m → a ≡ answerOf (closeOf b)
-sized-answer b (At p) q n a m s = s .0 ∙ ap answerOf (sym (closes-at b q))
-sized-answer b Nothing q n a m s = s .0 ∙ ap answerOf (sym (closes-none b q))
-
-pub sized-done : (b : Book) (f : Found) → f ≡ unusedBy b → (n : ℕ) (a : Answer) (m : ℕ) → Sized f n a m → a ≡ Done → (m ≡ n) × (closeOf b ≡ accept b)
-sized-done b (At p) q n a m s d =
-    let x : Unused p ≡ Done = sym (s .0) ∙ d in
-    let z : _≡_ {A = ℕ} 0 1 = cc in absurd (omega arith)
-sized-done b Nothing q n a m s d = (s .1, closes-none b q)
 
 -- what is answered has the paper's number and place
 pub with-verdict : (bytes : List ℕ) {r : Reading} → r ≡ inMemory (outcome limits bytes) → (r ≡ inMemory (outcome limits bytes)) × (verdict (r .answer) ≡ judge limits bytes)

@@ -4,10 +4,11 @@ use mathlib.Core.Path.{_≡_, sym, _∙_}
 use mathlib.Core.List.{List, [], _∷_, append-assoc}
 use Prim.Native.Nat.{ℕ, suc, _+_, _-_, _≤_, _<_}
 use native.Mathlib.Omega.{arith}
+use native.Mathlib.Numerals.{add-one}
 use lib.ListN.{length, getD, take, set, replicate, length-append, length-replicate, List·getD-append}
 use lib.Seq.{take-append-seam, set-append-seam}
 use Rattle.records.specs.Judge.{_▷_}
-use Rattle.records.specs.Memory.{pad}
+use Rattle.records.specs.Memory.{pad, tabulate}
 
 module _ {ℓ} {A : Type ℓ} where
   pub length-▷ : (xs : List A) (x : A) → length (_▷_ xs x) ≡ length xs + 1
@@ -35,3 +36,8 @@ module _ {ℓ} {A : Type ℓ} where
     -- an array that holds xs, with one more stored behind them
     pub pad-fill : (x : A) {l : List A} {g : ℕ} → l ≡ pad n z xs → length xs ≡ g → g < n → set l g x ≡ pad n z (_▷_ xs x)
     pad-fill x e q h = rw (e, ← q) (pad-set x (omega arith))
+
+-- one more of a table
+pub tabulate-▷ : {A : Type 0} (n : ℕ) (f : ℕ → A) → tabulate (n + 1) f ≡ _▷_ (tabulate n f) (f n)
+unfolding tabulate
+tabulate-▷ n f = rw add-one

@@ -1,19 +1,14 @@
 -- What the functions inside ask of their callers and tell them.
 use Prim.Native.Nat.{ℕ, _+_, _≤_, _<_}
 use mathlib.Core.Path.{_≡_}
-use mathlib.Core.List.{List, _++_}
+use mathlib.Core.List.{List}
 use lib.ListN.{length, take}
 use Rattle.paper.specs.Limits.{limits}
 use Rattle.paper.specs.Lists.{sum}
-use Rattle.records.specs.Format.{recordOf, encode}
-use Rattle.records.specs.Judge.{Book, counts, unusedBy, closeOf, accept, answerOf, outcome}
+use Rattle.records.specs.Judge.{Book, counts, unusedBy, closeOf}
 use Rattle.records.specs.Memory.{pad, noEvent, inMemory}
-use Rattle.records.specs.Bytes.{bytesOf}
-use Rattle.records.specs.declared.Answer.{Answer}
-use Rattle.records.specs.declared.Answer.the-variants.{Done, Unused}
 use Rattle.records.specs.declared.Reading.{Reading}
 use Rattle.records.specs.declared.Tree.{Tree}
-use Rattle.records.specs.declared.format.Record.{Record}
 use Rattle.records.specs.declared.judge.State.{State}
 use Rattle.records.specs.declared.uses.Found.{Found}
 use Rattle.records.specs.declared.uses.Found.the-variants.{At, Nothing}
@@ -65,27 +60,3 @@ pub record Held (b : Book) (t : Tree) (ps : List ℕ) : Type 0 where
 
 abbrev pub Closes : Tree → List ℕ → State → Reading → Type 0
 Closes t places s r = (b : Book) → Held b t places → Fronts b (t .sizes) places (t .inputs) → s ≡ counts b → r ≡ inMemory (closeOf b)
-
--- n itself, where the array of the events has it
-pub record Within (n r : ℕ) : Type 0 where
-  pub inside : r < limits .events
-  pub same : n < limits .events → r ≡ n
-
--- a record that is read as itself
-abbrev pub Own : Record → Type 0
-Own r = (rest : List ℕ) → recordOf (encode r ++ rest) ≡ r
-
--- the bytes of t are accepted
-abbrev pub Accepted : Tree → Type 0
-Accepted t = (b : Book) × (outcome limits (bytesOf t) ≡ accept b)
-
--- what the end record leaves
-abbrev pub Sized : Found → ℕ → Answer → ℕ → Type 0
-Sized (At place) n a m = (a ≡ Unused place) × (m ≡ 0)
-Sized Nothing n a m = (a ≡ Done) × (m ≡ n)
-
--- what a survey of t says: the answer to t's bytes, and where that is Done how many they are
-pub record Surveyed (t : Tree) (a : Answer) (n : ℕ) : Type 0 where
-  pub answer : a ≡ answerOf (outcome limits (bytesOf t))
-  pub bytes : a ≡ Done → n ≡ length (bytesOf t)
-  pub accepted : a ≡ Done → Accepted t

@@ -1,6 +1,6 @@
 -- A tree that was read, in memory: each of its lists fills an array from the front, with zeros behind it.
-use Prim.Native.Nat.{ℕ, _-_}
-use mathlib.Core.List.{List, _++_}
+use Prim.Native.Nat.{ℕ, zero, suc, _-_}
+use mathlib.Core.List.{List, [], _∷_, _++_}
 use lib.ListN.{length, replicate}
 use Rattle.paper.specs.Limits.{limits}
 use Rattle.records.specs.Judge.{Book, start, Outcome, accept, refuse}
@@ -31,3 +31,8 @@ memory b = record {
 unfoldable pub inMemory : Outcome → Reading
 inMemory (accept b) = record { answer = Done; tree = memory b }
 inMemory (refuse a) = record { answer = a; tree = memory start }
+
+-- f 0 .. f (n - 1)
+unfoldable pub tabulate : {A : Type 0} → ℕ → (ℕ → A) → List A
+tabulate zero f = []
+tabulate (suc n) f = tabulate n f ++ (f n ∷ [])

@@ -1,12 +1,7 @@
-// The records of a tree: what stands at the front of some bytes, and a record's bytes.
-use crate::GATES_FROM;
+// The records of a tree: what stands at the front of some bytes.
 ghost use mathlib.Core.Path.{_≡_};
-ghost use mathlib.Core.List.{_++_};
-ghost use Prim.Native.Nat.{_+_, _*_, _≤_};
-ghost use lib.ListN.{length, drop};
-ghost use Rattle.records.specs.Format.{lengthOf, recordOf, widthOf, encode};
-ghost use Rattle.records.specs.Bytes.{inputRecord, gateRecord};
-ghost use Rattle.records.specs.Inner.{Own};
+ghost use Prim.Native.Nat.{_+_, _*_};
+ghost use Rattle.records.specs.Format.{lengthOf, recordOf, widthOf};
 
 pub enum Record {
     // No byte is left.
@@ -97,77 +92,5 @@ pub fn decode(b: &[u8]) -> Record
         5 => Record::EventInput(b[1]),
         6 => Record::GateInput(two(b[1], b[2])),
         _ => Record::End,
-    }
-}
-
-// The record of an input.
-pub fn input_record(code: u16) -> Record
-    ensures { λ r. ⌜ (r ≡ inputRecord code) × Own r ⌝ }
-{
-    if code < GATES_FROM {
-        return Record::EventInput(code as u8);
-    }
-    Record::GateInput(code - GATES_FROM)
-}
-
-// The record of a gate.
-pub fn gate_record(kind: u8, k: u8, n: u8) -> Record
-    ensures { λ r. ⌜ (r ≡ gateRecord kind k n) × Own r ⌝ }
-{
-    match kind {
-        2 => Record::Gate(2, 0, n),
-        3 => Record::Gate(3, 0, n),
-        4 => Record::Gate(4, k, n),
-        _ => Record::Unknown,
-    }
-}
-
-fn put_gate(b: &mut [u8], kind: u8, k: u8, n: u8)
-    requires { ⌜ widthOf (Record.Gate kind k n) ≤ length (now b) ⌝ }
-    ensures { λ _. ⌜ now (b .exit) ≡ encode (Record.Gate kind k n) ++ drop (widthOf (Record.Gate kind k n)) (now (b .entry)) ⌝ }
-{
-    if kind == 4 {
-        b[0] = 4;
-        b[1] = k;
-        b[2] = n;
-        return;
-    }
-    b[0] = kind;
-    b[1] = n;
-}
-
-// Writes a record to the front of b.
-pub fn put(b: &mut [u8], r: Record)
-    requires { ⌜ widthOf r ≤ length (now b) ⌝ }
-    ensures { λ _. ⌜ now (b .exit) ≡ encode r ++ drop (widthOf r) (now (b .entry)) ⌝ }
-{
-    match r {
-        Record::Event(c) => {
-            b[0] = 1;
-            b[1] = (c % 256) as u8;
-            b[2] = (c / 256 % 256) as u8;
-            b[3] = (c / 65536 % 256) as u8;
-            b[4] = (c / 16777216) as u8;
-        }
-        Record::Gate(kind, k, n) => {
-            put_gate(b, kind, k, n);
-        }
-        Record::EventInput(e) => {
-            b[0] = 5;
-            b[1] = e;
-        }
-        Record::GateInput(g) => {
-            b[0] = 6;
-            b[1] = (g % 256) as u8;
-            b[2] = (g / 256) as u8;
-        }
-        Record::End => {
-            b[0] = 7;
-        }
-        Record::Unknown => {
-            b[0] = 0;
-        }
-        Record::Missing => {}
-        Record::Short => {}
     }
 }

@@ -1,11 +1,8 @@
-// Tree records: any bytes judged by the paper's rules, read into a tree in memory, and written back byte for byte.
-mod emission; // a tree's records, written
-mod format; // the records: what stands at the front of some bytes, and a record's bytes
-mod judge; // what a record does at a place of the reading: numbers 1 to 7
-mod survey; // a tree in memory, judged as its bytes would be
-mod uses; // the search for an item that is an input nowhere: number 8
+// Tree records: any bytes judged by the paper's rules and read into a tree in memory.
+pub mod format; // the records: what stands at the front of some bytes
+pub mod judge; // what a record does at a place of the reading: numbers 1 to 7
+pub mod uses; // the search for an item that is an input nowhere: number 8
 
-use emission::emit;
 use judge::State;
 use judge::Step;
 use judge::begin;
@@ -16,7 +13,6 @@ use judge::past_input;
 use paper::EVENTS;
 use paper::GATES;
 use paper::IN_ALL;
-use survey::survey;
 use uses::Found;
 use uses::unused_in;
 ghost use mathlib.Core.Path.{_≡_};
@@ -24,7 +20,6 @@ ghost use Rattle.paper.specs.Limits.{limits};
 ghost use Rattle.records.specs.Answers.{verdict};
 ghost use Rattle.records.specs.Judge.{start, refuse, outcome, judge};
 ghost use Rattle.records.specs.Memory.{memory, inMemory};
-ghost use Rattle.records.specs.Bytes.{writeOf, wrote};
 ghost use Rattle.records.specs.Inner.{Ready, Closes};
 
 // The input that stands for gate 0: an event's input is its number, and a gate's is its number with this added.
@@ -64,12 +59,6 @@ pub struct Tree {
 pub struct Reading {
     pub answer: Answer,
     pub tree: Tree,
-}
-
-// What writing answers: the bytes are 0 in a refusal.
-pub struct Written {
-    pub answer: Answer,
-    pub bytes: usize,
 }
 
 // The tree of no record.
@@ -186,28 +175,4 @@ pub fn place(a: Answer) -> usize
         Answer::Unused(p) => p,
         Answer::Room => 0,
     }
-}
-
-fn unwritten(answer: Answer) -> Written
-    ensures { λ r. ⌜ (r .answer ≡ answer) × (r .bytes ≡ 0) ⌝ }
-{
-    Written { answer, bytes: 0 }
-}
-
-// Writes a tree to the front of room: answered as its bytes would be, then Room where they do not fit. A refusal writes
-// nothing, and the room behind the bytes stays.
-pub fn write(t: Tree, room: &mut [u8]) -> Written
-    ensures { λ r. ⌜ wrote (r .answer) (r .bytes) (now (room .exit)) ≡ writeOf limits t (now (room .entry)) ⌝ }
-{
-    let v = survey(t);
-    let a = v.answer;
-    let n = v.bytes;
-    if number(a) == 0 {
-        if room.len() < n {
-            return unwritten(Answer::Room);
-        }
-        emit(t, room);
-        return v;
-    }
-    unwritten(a)
 }

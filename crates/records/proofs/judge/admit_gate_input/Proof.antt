@@ -1,5 +1,7 @@
 -- `records::judge::admit_gate_input` meets its contract.
 -- Assumes nothing.
+use Prim.Native.Nat.{_+_}
+use native.Mathlib.Omega.{arith}
 use borrow.Author.Tests.{le-leb, lt-leb, eq-eqb, ne-eqb}
 use borrow.Author.Needs.{needs}
 use Rattle.records.proofs.judge.admit_gate_input.Statement.{statement}
@@ -12,13 +14,13 @@ add-if2 : tie.Need-add-if2
 add-if2 c = search needs
 
 returns-2 : tie.Need-returns-2
-returns-2 c = simp (ne-eqb _ _ (c .before .before .if1 .left), le-leb _ _ (c .if2 .taken))
+returns-2 c = simp (ne-eqb _ _ (c .before .before .if1 .left), le-leb (c .before .before .before .before .args .s .gates) (c .before .before .before .before .args .g + 1) (omega (arith, c .if2 .taken)))
 
 add-t9 : tie.Need-add-t9
 add-t9 c = search needs
 
 returns-3 : tie.Need-returns-3
-returns-3 c = simp (ne-eqb _ _ (c .before .before .if1 .left), lt-leb _ _ (c .if2 .left))
+returns-3 c = simp (ne-eqb _ _ (c .before .before .if1 .left), lt-leb (c .before .before .before .before .args .s .gates) (c .before .before .before .before .args .g + 1) (omega (arith, c .if2 .left)))
 
 pub admit-gate-input-spec : {M : Type 1} → statement M
 admit-gate-input-spec = tie.close (tie.spec returns add-if2 returns-2 add-t9 returns-3)

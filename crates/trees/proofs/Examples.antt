@@ -1,0 +1,66 @@
+-- Reading vectors, of the definitions themselves: each row is some bytes with their number and place.
+-- Assumes nothing.
+use mathlib.Core.Path.{_≡_, refl}
+use mathlib.Core.List.{List, [], _∷_, _++_, map}
+use Prim.Native.Nat.{ℕ}
+use Rattle.paper.specs.Limits.{limits}
+use Rattle.paper.specs.Answers.{Verdict}
+use Rattle.records.specs.Format.{recordOf, bodyOf}
+use Rattle.records.specs.Rules.{stepOf}
+use Rattle.records.specs.Uses.{among, lowestUnused, unusedOf}
+use Rattle.records.specs.Judge.{judge, outcome, run, closeOf}
+
+record Row : Type 0 where
+  bytes : List ℕ
+  answer : Verdict
+
+abbrev row : List ℕ → ℕ → ℕ → Row
+row bytes number place = record { bytes = bytes; answer = record { number = number; place = place } }
+
+-- an event of chance 0, one of a tenth, and a certain one
+abbrev ev : List ℕ
+ev = 1 ∷ 0 ∷ 0 ∷ 0 ∷ 0 ∷ []
+
+abbrev tenth : List ℕ
+tenth = 1 ∷ 0x00 ∷ 0xE1 ∷ 0xF5 ∷ 0x05 ∷ []
+
+abbrev certain : List ℕ
+certain = 1 ∷ 0x00 ∷ 0xCA ∷ 0x9A ∷ 0x3B ∷ []
+
+abbrev case1 : List ℕ
+case1 = tenth ++ (tenth ++ (tenth ++ (
+    2 ∷ 2 ∷ 5 ∷ 0 ∷ 5 ∷ 1 ∷
+    2 ∷ 2 ∷ 5 ∷ 1 ∷ 5 ∷ 2 ∷
+    3 ∷ 2 ∷ 6 ∷ 0 ∷ 0 ∷ 6 ∷ 1 ∷ 0 ∷ 7 ∷ [])))
+
+abbrev table : List Row
+table =
+    row case1 0 0
+    ∷ row (case1 ++ (7 ∷ [])) 3 36
+    ∷ row [] 1 0
+    ∷ row (8 ∷ []) 2 0
+    ∷ row (5 ∷ []) 1 0
+    ∷ row (5 ∷ 0 ∷ []) 3 0
+    ∷ row (7 ∷ []) 4 0
+    ∷ row (7 ∷ 7 ∷ []) 3 1
+    ∷ row (ev ++ (7 ∷ [])) 4 5
+    ∷ row (ev ++ (2 ∷ 2 ∷ 5 ∷ 0 ∷ [])) 1 9
+    ∷ row (ev ++ (2 ∷ 2 ∷ 5 ∷ 0 ∷ 7 ∷ [])) 3 9
+    ∷ row (ev ++ (2 ∷ 2 ∷ 5 ∷ 0 ∷ 2 ∷ 0 ∷ [])) 3 9
+    ∷ row (ev ++ (2 ∷ 1 ∷ 5 ∷ 0 ∷ 7 ∷ 0xFF ∷ [])) 3 10
+    ∷ row (ev ++ (2 ∷ 1 ∷ 5 ∷ 0 ∷ 1 ∷ 0xFF ∷ 0xFF ∷ [])) 1 9
+    ∷ row (ev ++ (2 ∷ 1 ∷ 5 ∷ 0 ∷ ev)) 3 9
+    ∷ row (ev ++ (2 ∷ 0 ∷ [])) 4 5
+    ∷ row (ev ++ (4 ∷ 65 ∷ 65 ∷ [])) 4 5
+    ∷ row (ev ++ (4 ∷ 2 ∷ 1 ∷ [])) 5 5
+    ∷ row (ev ++ (2 ∷ 1 ∷ 5 ∷ 1 ∷ 7 ∷ [])) 6 7
+    ∷ row (ev ++ (2 ∷ 1 ∷ 6 ∷ 0 ∷ 0 ∷ 7 ∷ [])) 6 7
+    ∷ row (1 ∷ 0x01 ∷ 0xCA ∷ 0x9A ∷ 0x3B ∷ []) 7 0
+    ∷ row (ev ++ (ev ++ (2 ∷ 1 ∷ 5 ∷ 0 ∷ 7 ∷ []))) 8 5
+    ∷ row (ev ++ (2 ∷ 1 ∷ 5 ∷ 0 ∷ 2 ∷ 1 ∷ 5 ∷ 0 ∷ 7 ∷ [])) 8 5
+    ∷ row (certain ++ (2 ∷ 1 ∷ 5 ∷ 0 ∷ 7 ∷ [])) 0 0
+    ∷ []
+
+vectors : map (λ (r : Row). judge limits (r .bytes)) table ≡ map (λ (r : Row). r .answer) table
+unfolding judge outcome run stepOf recordOf bodyOf closeOf unusedOf lowestUnused among
+vectors = refl

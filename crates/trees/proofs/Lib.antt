@@ -1,0 +1,10 @@
+pub mod Lawful
+pub mod InMemory
+pub mod Longest
+pub mod Prefix
+pub mod Recoding
+pub mod RoundTrip
+pub mod Telling
+pub mod ReadBack
+pub mod Promises
+pub mod Examples

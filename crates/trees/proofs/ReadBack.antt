@@ -1,0 +1,94 @@
+-- The bytes of a tree, where they are accepted, are read as the tree that they tell.
+-- Assumes nothing.
+use mathlib.Core.Path.{_≡_, refl, sym, ap, _∙_}
+use mathlib.Core.List.{List}
+use Prim.Native.Nat.{ℕ, _≤_, _<_}
+use native.Mathlib.Omega.{arith}
+use native.Mathlib.Nat.{le-antisymm}
+use lib.ListN.{length, getD, drop}
+use lib.Dec.{ltb, eqb}
+use Rattle.paper.specs.Limits.{limits}
+use Rattle.records.specs.Format.{recordOf}
+use Rattle.paper.specs.Flat.{gatesFrom}
+use Rattle.records.specs.Judge.{Book, start, counts, addEvent, addGate, addInput, accept, outcome}
+use Rattle.records.specs.Memory.{memory}
+use Rattle.writing.specs.Bytes.{bytesOf, chanceAt, told}
+use Rattle.writing.specs.Inner.{Own}
+use Rattle.records.specs.declared.Tree.{Tree}
+use Rattle.records.specs.declared.judge.State.{State}
+use Rattle.records.proofs.Cases.{if-elim}
+use Rattle.writing.proofs.Coding.{own-unknown, own-end, own-event, own-and, own-or, own-least, own-event-input, own-gate-input}
+use Rattle.records.proofs.Pad.{length-▷}
+use Rattle.records.proofs.Steps.{OnEvent, OnGate, OnInput, codeOf}
+use Rattle.writing.proofs.Rest.{nextRecord, which, is-event, is-end, tag, gate-told}
+use Rattle.trees.proofs.Telling.{Tells, tells-start, tells-event, tells-gate, tells-input, tells-all, event-told, input-told}
+use Rattle.writing.proofs.Following.{Following, follow-start, follow-event, follow-gate, follow-input, at-event, at-gate, at-input, read-back}
+use Rattle.records.proofs.Runs.{accepted-keeps}
+
+-- each record of a tree is read as itself
+own-next : (t : Tree) (s : State) → Own (nextRecord t s)
+own-next t s =
+    let kind : ℕ = getD (t .kinds) (s .gates) 0 in
+    which t s Own
+    (λ _. if-elim Own (ltb (s .events) (limits .events)) (λ _. own-event _) (λ _. own-event 0))
+    (λ _ _. if-elim Own (ltb (getD (t .inputs) (s .inputs) 0) gatesFrom) (λ _. own-event-input _) (λ _. own-gate-input _))
+    (λ _ _ _. if-elim Own (ltb (s .gates) (limits .gates))
+    (λ _. if-elim Own (eqb kind 2) (λ _. own-and _)
+    (λ _. if-elim Own (eqb kind 3) (λ _. own-or _)
+    (λ _. if-elim Own (eqb kind 4) (λ _. own-least _ _) (λ _. own-unknown))))
+    (λ _. own-and 0))
+    (λ _ _ _. own-end)
+
+module _ (t : Tree) where
+  abbrev bytes : List ℕ
+  bytes = bytesOf t
+
+  -- where the reading of the tree's bytes stands
+  record Along (b : Book) : Type 0 where
+    following : Following t bytes (counts b)
+    tells : Tells t b
+    someEvents : length (b .events) ≤ t .«event_count»
+    someGates : length (b .sizes) ≤ t .«gate_count»
+
+  module _ (b : Book) (v : Along b) where
+    there : recordOf (drop (b .at) bytes) ≡ nextRecord t (counts b)
+    there = read-back (v .following) refl (own-next t (counts b))
+
+    along-event : (c next : ℕ) → OnEvent (length bytes) (counts b) (recordOf (drop (b .at) bytes)) c next → Along (addEvent b c next)
+    along-event c next on =
+        let chance : chanceAt t (length (b .events)) ≡ c = event-told t (length (b .events)) c (on .few) (sym (at-event (v .following) there on) ∙ on .shape) in
+        let less : length (b .events) < t .«event_count» = is-event t (counts b) (ap tag (sym there ∙ on .shape)) in
+        record {
+          following = rw length-▷ (follow-event (v .following) there on);
+          tells = tells-event (v .tells) c next (ap (λ (x : ℕ). record { chance = x }) (sym chance));
+          someEvents = rw length-▷ (omega arith);
+          someGates = v .someGates;
+        }
+
+    along-gate : (kind k n next : ℕ) → OnGate (length bytes) (counts b) (recordOf (drop (b .at) bytes)) kind k n next → Along (addGate b kind k n next)
+    along-gate kind k n next on =
+        let (h, more, is) = at-gate (v .following) there on in
+        let (kinds, leasts, size) = gate-told t (length (b .sizes)) kind k n (on .few) (sym is ∙ on .shape) in
+        record {
+          following = rw length-▷ (follow-gate (v .following) there on);
+          tells = tells-gate (v .tells) kind k n next kinds leasts size;
+          someEvents = v .someEvents;
+          someGates = rw length-▷ (omega arith);
+        }
+
+    along-input : (i next : ℕ) → OnInput (length bytes) (counts b) (recordOf (drop (b .at) bytes)) i next → Along (addInput b i next)
+    along-input i next on =
+        let (h, is) = at-input (v .following) there on in
+        record {
+          following = rw length-▷ (follow-input (v .following) there on);
+          tells = tells-input (v .tells) i next (sym (on .code) ∙ ap codeOf is ∙ input-told t (length (b .inputs)));
+          someEvents = v .someEvents;
+          someGates = v .someGates;
+        }
+
+  pub read-told : (b : Book) → outcome limits bytes ≡ accept b → memory b ≡ told t
+  read-told b e =
+      let begin : Along start = record { following = follow-start t; tells = tells-start t; someEvents = omega arith; someGates = omega arith } in
+      let v = accepted-keeps bytes Along (λ b c next k p on. along-event b p c next on) (λ b kind least n next k p on. along-gate b p kind least n next on) (λ b i next k p on. along-input b p i next on) b begin e in
+      let (allEvents, none, allGates) = is-end t (counts b) (ap tag (sym (there b (v .holds)) ∙ v .close .shape)) in
+      tells-all (v .holds .tells) (le-antisymm (v .holds .someEvents) allEvents) (le-antisymm (v .holds .someGates) allGates) (omega (arith, v .kept .wanted))

@@ -1,0 +1,120 @@
+-- What was read as a record is that record's bytes.
+-- Assumes nothing.
+use mathlib.Core.Path.{_≡_, refl, ap, _∙_}
+use mathlib.Core.List.{List, [], _∷_, _++_}
+use Prim.Native.Nat.{ℕ, _+_, _-_, _*_, _/_, _%_, _≤_, _<_}
+use native.Mathlib.Omega.{arith}
+use lib.ListN.{length, getD, drop}
+use borrow.Author.Tests.{lt-ltb, le-ltb}
+use Rattle.records.specs.Format.{byte, recordOf, widthOf, encode}
+use Rattle.paper.specs.Flat.{gatesFrom}
+use Rattle.writing.specs.Bytes.{inputRecord, gateRecord}
+use Rattle.records.specs.declared.format.Record.{Record}
+use Rattle.records.specs.declared.format.Record.the-variants.{Missing, Unknown, Short, Event, Gate, EventInput, GateInput, End}
+use Rattle.records.proofs.Cases.{front, known}
+use Rattle.records.proofs.Steps.{codeOf, IsInput}
+
+split1 : (l : List ℕ) → 1 ≤ length l → l ≡ byte l 0 ∷ drop 1 l
+split1 [] h = absurd (omega arith)
+split1 (a ∷ l) h = refl
+
+split2 : (l : List ℕ) → 2 ≤ length l → l ≡ byte l 0 ∷ byte l 1 ∷ drop 2 l
+split2 [] h = absurd (omega arith)
+split2 (a ∷ []) h = absurd (omega arith)
+split2 (a ∷ b ∷ l) h = refl
+
+split3 : (l : List ℕ) → 3 ≤ length l → l ≡ byte l 0 ∷ byte l 1 ∷ byte l 2 ∷ drop 3 l
+split3 [] h = absurd (omega arith)
+split3 (a ∷ []) h = absurd (omega arith)
+split3 (a ∷ b ∷ []) h = absurd (omega arith)
+split3 (a ∷ b ∷ c ∷ l) h = refl
+
+split5 : (l : List ℕ) → 5 ≤ length l → l ≡ byte l 0 ∷ byte l 1 ∷ byte l 2 ∷ byte l 3 ∷ byte l 4 ∷ drop 5 l
+split5 [] h = absurd (omega arith)
+split5 (a ∷ []) h = absurd (omega arith)
+split5 (a ∷ b ∷ []) h = absurd (omega arith)
+split5 (a ∷ b ∷ c ∷ []) h = absurd (omega arith)
+split5 (a ∷ b ∷ c ∷ d ∷ []) h = absurd (omega arith)
+split5 (a ∷ b ∷ c ∷ d ∷ e ∷ l) h = refl
+
+low : (a x : ℕ) → a < 256 → a ≡ (a + 256 * x) % 256
+low a x h = omega arith
+
+high1 : (a x : ℕ) → a < 256 → x ≡ (a + 256 * x) / 256
+high1 a x h = omega arith
+
+high2 : (a b x : ℕ) → a < 256 → b < 256 → x ≡ (a + 256 * (b + 256 * x)) / 65536
+high2 a b x h k = omega arith
+
+high3 : (a b d x : ℕ) → a < 256 → b < 256 → d < 256 → x ≡ (a + 256 * (b + 256 * (d + 256 * x))) / 16777216
+high3 a b d x h k m = omega arith
+
+-- l starts with the bytes of r
+abbrev Starts : List ℕ → Record → Type 0
+Starts l r = l ≡ encode r ++ drop (widthOf r) l
+
+-- what holds of a record that was read: its bytes stand there, a gate has its k only if it is an at-least gate, an event's input is a byte
+abbrev pub Recoded : List ℕ → Record → Type 0
+Recoded l Missing = Unit {0}
+Recoded l Unknown = Unit {0}
+Recoded l Short = Unit {0}
+Recoded l (Event c) = Starts l (Event c)
+Recoded l (Gate kind k n) = Starts l (Gate kind k n) × (gateRecord kind k n ≡ Gate kind k n)
+Recoded l (EventInput e) = Starts l (EventInput e) × (e < 256)
+Recoded l (GateInput g) = Starts l (GateInput g)
+Recoded l End = Starts l End
+
+module _ (l : List ℕ) (good : (i : ℕ) → getD l i 0 < 256) where
+  abbrev R : Record → Type 0
+  R r = Recoded l r
+
+  recode-event : byte l 0 ≡ 1 → 5 ≤ length l → Starts l (Event (byte l 1 + 256 * (byte l 2 + 256 * (byte l 3 + 256 * byte l 4))))
+  recode-event k h =
+      let c : ℕ = byte l 1 + 256 * (byte l 2 + 256 * (byte l 3 + 256 * byte l 4)) in
+      let p1 : byte l 1 ≡ c % 256 = low (byte l 1) _ (good 1) in
+      let p2 : byte l 2 ≡ c / 256 % 256 = low (byte l 2) _ (good 2) ∙ ap (λ (x : ℕ). x % 256) (high1 (byte l 1) _ (good 1)) in
+      let p3 : byte l 3 ≡ c / 65536 % 256 = low (byte l 3) _ (good 3) ∙ ap (λ (x : ℕ). x % 256) (high2 (byte l 1) (byte l 2) _ (good 1) (good 2)) in
+      let p4 : byte l 4 ≡ c / 16777216 = high3 (byte l 1) (byte l 2) (byte l 3) _ (good 1) (good 2) (good 3) in
+      let q : byte l 0 ∷ byte l 1 ∷ byte l 2 ∷ byte l 3 ∷ byte l 4 ∷ drop 5 l ≡ 1 ∷ c % 256 ∷ c / 256 % 256 ∷ c / 65536 % 256 ∷ c / 16777216 ∷ drop 5 l
+      = λ i. k i ∷ p1 i ∷ p2 i ∷ p3 i ∷ p4 i ∷ drop 5 l in
+      split5 l h ∙ q
+
+  recode-gate-input : byte l 0 ≡ 6 → 3 ≤ length l → Starts l (GateInput (byte l 1 + 256 * byte l 2))
+  recode-gate-input k h =
+      let g : ℕ = byte l 1 + 256 * byte l 2 in
+      let g1 : byte l 1 < 256 = good 1 in
+      let p1 : byte l 1 ≡ g % 256 = omega arith in
+      let p2 : byte l 2 ≡ g / 256 = omega arith in
+      let q : byte l 0 ∷ byte l 1 ∷ byte l 2 ∷ drop 3 l ≡ 6 ∷ g % 256 ∷ g / 256 ∷ drop 3 l = λ i. k i ∷ p1 i ∷ p2 i ∷ drop 3 l in
+      split3 l h ∙ q
+
+  two-are : (x : ℕ) → byte l 0 ≡ x → 2 ≤ length l → l ≡ x ∷ byte l 1 ∷ drop 2 l
+  two-are x k h = split2 l h ∙ ap (λ (y : ℕ). y ∷ byte l 1 ∷ drop 2 l) k
+
+  three-are : (x : ℕ) → byte l 0 ≡ x → 3 ≤ length l → l ≡ x ∷ byte l 1 ∷ byte l 2 ∷ drop 3 l
+  three-are x k h = split3 l h ∙ ap (λ (y : ℕ). y ∷ byte l 1 ∷ byte l 2 ∷ drop 3 l) k
+
+  pub recode : Recoded l (recordOf l)
+  recode =
+      front l R (λ _. tt) (λ _. tt) (λ _ _. tt)
+      (λ one some h.
+      known l (λ k n r. byte l 0 ≡ k → n ≤ length l → R r)
+      recode-event
+      (λ q m. (two-are 2 q m, refl))
+      (λ q m. (two-are 3 q m, refl))
+      (λ q m. (three-are 4 q m, refl))
+      (λ q m. (two-are 5 q m, good 1))
+      recode-gate-input
+      (λ q m. split1 l m ∙ ap (λ (y : ℕ). y ∷ drop 1 l) q)
+      (byte l 0) some refl h)
+
+-- an input's record is that of its number
+pub input-again : (l : List ℕ) (r : Record) → IsInput r → Recoded l r → (inputRecord (codeOf r) ≡ r) × Starts l r
+input-again l Missing h f = absurd h
+input-again l Unknown h f = absurd h
+input-again l Short h f = absurd h
+input-again l (Event c) h f = absurd h
+input-again l (Gate kind k n) h f = absurd h
+input-again l (EventInput e) h f = (rw (lt-ltb e 256 (f .1)), f .0)
+input-again l (GateInput g) h f = let d : gatesFrom + g - gatesFrom ≡ g = omega arith in (rw (le-ltb (gatesFrom + g) gatesFrom (omega arith), d), f)
+input-again l End h f = absurd h

@@ -1,0 +1,104 @@
+-- Where the loop of `emit` stands: the room's front holds the tree's bytes up to the next record.
+-- Assumes nothing.
+use mathlib.Core.Path.{_≡_, refl, sym, ap, _∙_}
+use mathlib.Core.List.{List, [], _++_, append-assoc, append-nil}
+use Prim.Native.Nat.{ℕ, _+_, _-_, _≤_}
+use native.Mathlib.Omega.{arith}
+use lib.ListN.{length, take, drop, length-append, length-take, length-drop, drop-of-length-le}
+use lib.Seq.{take-all, take-at, drop-at, drop-drop, take-add, take-length, length-take-le}
+use Rattle.paper.specs.Limits.{limits}
+use Rattle.records.specs.Format.{widthOf, encode}
+use Rattle.records.specs.Rules.{admitOf, stepOf}
+use Rattle.records.specs.Judge.{counts, start, pastEvent, pastGate, pastInput, accept, refuse}
+use Rattle.writing.specs.Bytes.{bytesOf}
+use Rattle.writing.specs.Inner.{Own, Accepted}
+use Rattle.records.specs.declared.Answer.{Answer}
+use Rattle.records.specs.declared.Tree.{Tree}
+use Rattle.records.specs.declared.format.Record.{Record}
+use Rattle.records.specs.declared.judge.State.{State}
+use Rattle.records.specs.declared.judge.Step.{Step}
+use Rattle.records.specs.declared.judge.Step.the-variants.{AddEvent, AddGate, AddInput, Close, Refused}
+use Rattle.writing.proofs.Coding.{encode-width}
+use Rattle.writing.proofs.Rest.{nextRecord}
+use Rattle.records.proofs.Runs.{Running, running-start, running-sound, running-event, running-gate, running-input, running-refused}
+use Rattle.records.proofs.Steps.{Sound}
+use Rattle.writing.proofs.Following.{Following, follow-start, follow-step, follow-event, follow-gate, follow-input, starts-with, read-back, room-for, end-length}
+
+-- the room as the code leaves it where its rest from `at` on was lent, and came back as ys
+abbrev pub lent : List ℕ → ℕ → List ℕ → List ℕ
+lent room at ys = take at room ++ (ys ++ drop (length room - at) (drop at room))
+
+pub record Emitting (t : Tree) (old room : List ℕ) (s : State) : Type 0 where
+  pub running : Running (bytesOf t) s
+  pub following : Following t (bytesOf t) s
+  pub written : room ≡ take (s .at) (bytesOf t) ++ drop (s .at) old
+  pub fits : length (bytesOf t) ≤ length old
+
+pub emit-start : (t : Tree) (room : List ℕ) → length (bytesOf t) ≤ length room → Emitting t room room (counts start)
+emit-start t room h = record { running = running-start (bytesOf t); following = follow-start t; written = refl; fits = h }
+
+module _ {t : Tree} {old room : List ℕ} {s : State} (v : Emitting t old room s) where
+  pub emit-length : length room ≡ length old
+  emit-length =
+      rw (v .written)
+      (length-append (take (s .at) (bytesOf t)) (drop (s .at) old) ∙ simp (length-take, length-drop) (omega (arith, v .fits, v .running .within)))
+
+  pub emit-inside : s .at ≤ length room
+  emit-inside = omega (arith, emit-length, v .running .within, v .fits)
+
+  front : length (take (s .at) (bytesOf t)) ≡ s .at
+  front = length-take-le (s .at) (bytesOf t) (v .running .within)
+
+  module _ {r : Record} (e : r ≡ nextRecord t s) where
+    pub emit-room : widthOf r ≤ length (take (length room - s .at) (drop (s .at) room))
+    emit-room = simp (length-take, length-drop) (omega (arith, room-for (v .following) e (v .running .within), v .fits, emit-length))
+
+    module _ (own : Own r) {ys : List ℕ} (put : ys ≡ encode r ++ drop (widthOf r) (take (length room - s .at) (drop (s .at) room))) where
+      -- the room after the record is put at its place
+      emit-put : lent room (s .at) ys ≡ take (s .at + widthOf r) (bytesOf t) ++ drop (s .at + widthOf r) old
+      emit-put =
+          let (xs, q) = starts-with (v .following) e in
+          let kept : take (s .at) room ≡ take (s .at) (bytesOf t) = rw (v .written) (take-at (take (s .at) (bytesOf t)) (drop (s .at) old) (s .at) front) in
+          let behind : drop (s .at) room ≡ drop (s .at) old = rw (v .written) (drop-at (take (s .at) (bytesOf t)) (drop (s .at) old) (s .at) front) in
+          let all : take (length room - s .at) (drop (s .at) room) ≡ drop (s .at) room = take-all (length room - s .at) (drop (s .at) room) (omega (arith, length-drop (s .at) room)) in
+          let none : drop (length room - s .at) (drop (s .at) room) ≡ [] = drop-of-length-le (drop (s .at) room) {i = length room - s .at} (omega (arith, length-drop (s .at) room)) in
+          let there : take (widthOf r) (drop (s .at) (bytesOf t)) ≡ encode r = rw q (take-at (encode r) xs (widthOf r) (encode-width r)) in
+          rw (put, none, append-nil, all, kept, behind, take-add (s .at) (widthOf r) (bytesOf t), there, drop-drop)
+          (sym (append-assoc (take (s .at) (bytesOf t)) (encode r) (drop (s .at + widthOf r) old)))
+
+      pub emit-same : length (lent room (s .at) ys) ≡ length old
+      emit-same =
+          ap length emit-put ∙ length-append (take (s .at + widthOf r) (bytesOf t)) (drop (s .at + widthOf r) old)
+          ∙ simp (length-take, length-drop) (omega (arith, room-for (v .following) e (v .running .within), v .fits))
+
+      step : {x : Step} → x ≡ admitOf limits (s .at + widthOf r) s r → x ≡ stepOf limits (bytesOf t) s
+      step q = q ∙ follow-step (v .following) e own
+
+      pub emit-sound : {x : Step} → x ≡ admitOf limits (s .at + widthOf r) s r → Sound (length (bytesOf t)) s r x
+      emit-sound q = rw (read-back (v .following) e own) at (running-sound (v .running) (step q))
+
+      pub emit-event : (c next : ℕ) → AddEvent c next ≡ admitOf limits (s .at + widthOf r) s r → Emitting t old (lent room (s .at) ys) (pastEvent s next)
+      emit-event c next q =
+          let on = emit-sound q in
+          record { running = running-event (v .running) c next (step q); following = follow-event (v .following) e on; written = rw (on .place) emit-put; fits = v .fits }
+
+      pub emit-gate : (kind k n next : ℕ) → AddGate kind k n next ≡ admitOf limits (s .at + widthOf r) s r → Emitting t old (lent room (s .at) ys) (pastGate s n next)
+      emit-gate kind k n next q =
+          let on = emit-sound q in
+          record { running = running-gate (v .running) kind k n next (step q); following = follow-gate (v .following) e on; written = rw (on .place) emit-put; fits = v .fits }
+
+      pub emit-input : (i next : ℕ) → AddInput i next ≡ admitOf limits (s .at + widthOf r) s r → Emitting t old (lent room (s .at) ys) (pastInput s next)
+      emit-input i next q =
+          let on = emit-sound q in
+          record { running = running-input (v .running) i next (step q); following = follow-input (v .following) e on; written = rw (on .place) emit-put; fits = v .fits }
+
+      pub emit-done : Close ≡ admitOf limits (s .at + widthOf r) s r → lent room (s .at) ys ≡ bytesOf t ++ drop (length (bytesOf t)) old
+      emit-done q =
+          let shape = emit-sound q .shape in
+          let n : s .at + widthOf r ≡ length (bytesOf t) = rw shape (sym (end-length (v .following) e shape)) in
+          emit-put ∙ rw (n, take-length)
+
+      pub emit-never : Accepted t → (a : Answer) → Refused a ≡ admitOf limits (s .at + widthOf r) s r → ⊥
+      emit-never (b, p) a q =
+          let d : refuse a ≡ accept b = sym (running-refused (v .running) a (step q)) ∙ p in
+          let z : _≡_ {A = ℕ} 0 1 = cc in omega arith

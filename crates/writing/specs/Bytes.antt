@@ -1,0 +1,110 @@
+-- The bytes of a tree in memory, whatever its fields hold, and what writing them answers.
+use Prim.Native.Nat.{ℕ, zero, suc, _+_, _-_}
+use mathlib.Core.List.{List, _++_}
+use lib.ListN.{length, getD, drop}
+use lib.Dec.{ltb, eqb}
+use Rattle.paper.specs.Limits.{Limits, limits}
+use Rattle.paper.specs.Lists.{sum}
+use Rattle.records.specs.Choice.{if_then_else_}
+use Rattle.records.specs.Format.{encode}
+use Rattle.paper.specs.Flat.{gatesFrom}
+use Rattle.records.specs.Judge.{accept, refuse, outcome}
+use Rattle.records.specs.Memory.{pad, tabulate, noEvent}
+use Rattle.records.specs.declared.Answer.{Answer}
+use Rattle.records.specs.declared.Answer.the-variants.{Done, Room}
+use Rattle.records.specs.declared.format.Record.{Record}
+use Rattle.records.specs.declared.format.Record.the-variants.{Unknown, Event, Gate, EventInput, GateInput, End}
+use Rattle.records.specs.declared.judge.State.{State}
+use Rattle.records.specs.declared.Tree.{Tree}
+
+abbrev pub inputRecord : ℕ → Record
+inputRecord code = if ltb code gatesFrom then EventInput code else GateInput (code - gatesFrom)
+
+abbrev pub gateRecord : ℕ → ℕ → ℕ → Record
+gateRecord kind k n =
+    if eqb kind 2 then Gate 2 0 n else
+    if eqb kind 3 then Gate 3 0 n else
+    if eqb kind 4 then Gate 4 k n else
+    Unknown
+
+-- the record that comes next, once e events, g gates and i inputs are written and l inputs of the last gate are wanted. What lies behind an
+-- array counts as an event of chance 0 and as an and of no input.
+abbrev pub eventAt : ℕ → ℕ → Record
+eventAt chance e = if ltb e (limits .events) then Event chance else Event 0
+
+abbrev pub gateAt : List ℕ → List ℕ → List ℕ → ℕ → Record
+gateAt kinds leasts sizes g =
+    if ltb g (limits .gates) then gateRecord (getD kinds g 0) (getD leasts g 0) (getD sizes g 0) else
+    Gate 2 0 0
+
+abbrev pub inputAt : List ℕ → ℕ → Record
+inputAt inputs i = inputRecord (getD inputs i 0)
+
+-- of so many events and gates, at s, the next event having the chance given; once the events are written, an input, a gate or the end
+abbrev pub laterOf : ℕ → List ℕ → List ℕ → List ℕ → List ℕ → State → Record
+laterOf gates kinds leasts sizes inputs s =
+    if ltb 0 (s .left) then inputAt inputs (s .inputs) else
+    if ltb (s .gates) gates then gateAt kinds leasts sizes (s .gates) else
+    End
+
+abbrev pub nextOf : ℕ → ℕ → ℕ → List ℕ → List ℕ → List ℕ → List ℕ → State → Record
+nextOf events gates chance kinds leasts sizes inputs s =
+    if ltb (s .events) events then eventAt chance (s .events) else laterOf gates kinds leasts sizes inputs s
+
+abbrev pub chanceAt : Tree → ℕ → ℕ
+chanceAt t e = getD (t .events) e noEvent .chance
+
+-- n inputs from i on, and what follows them
+unfoldable pub inputBytes : Tree → ℕ → ℕ → List ℕ → List ℕ
+inputBytes t zero i rest = rest
+inputBytes t (suc n) i rest = encode (inputAt (t .inputs) i) ++ inputBytes t n (i + 1) rest
+
+-- n gates from g on, the first input of which is i, and the end
+unfoldable pub gateBytes : Tree → ℕ → ℕ → ℕ → List ℕ
+gateBytes t zero g i = encode End
+gateBytes t (suc n) g i =
+    encode (gateAt (t .kinds) (t .leasts) (t .sizes) g)
+    ++ inputBytes t (getD (t .sizes) g 0) i (gateBytes t n (g + 1) (i + getD (t .sizes) g 0))
+
+-- n events from e on, and what follows them
+unfoldable pub eventBytes : Tree → ℕ → ℕ → List ℕ
+eventBytes t zero e = gateBytes t (t .«gate_count») 0 0
+eventBytes t (suc n) e = encode (eventAt (chanceAt t e) e) ++ eventBytes t n (e + 1)
+
+unfoldable pub bytesOf : Tree → List ℕ
+bytesOf t = eventBytes t (t .«event_count») 0
+
+-- what a write answers, and what the room holds next
+pub record Wrote : Type 0 where
+  pub answer : Answer
+  pub bytes : ℕ
+  pub room : List ℕ
+
+abbrev pub wrote : Answer → ℕ → List ℕ → Wrote
+wrote a n room = record { answer = a; bytes = n; room = room }
+
+-- as its bytes would be answered, then Room (9) if they do not fit; room behind them stays
+unfoldable pub writeOf : Limits → Tree → List ℕ → Wrote
+writeOf L t room =
+    elim (outcome L (bytesOf t)) [
+      | accept b ↦
+          if ltb (length room) (length (bytesOf t)) then wrote Room 0 room else
+          wrote Done (length (bytesOf t)) (bytesOf t ++ drop (length (bytesOf t)) room)
+      | refuse a ↦ wrote a 0 room
+    ]
+
+-- the k that a gate's record tells: an and and an or have none
+abbrev pub toldLeast : ℕ → ℕ → ℕ
+toldLeast kind k = if eqb kind 4 then k else 0
+
+-- what the bytes of t tell: nothing of what lies behind its counts
+unfoldable pub told : Tree → Tree
+told t = record {
+  events = pad (limits .events) noEvent (tabulate (t .«event_count») (λ e. getD (t .events) e noEvent));
+  «event_count» = t .«event_count»;
+  kinds = pad (limits .gates) 0 (tabulate (t .«gate_count») (λ g. getD (t .kinds) g 0));
+  leasts = pad (limits .gates) 0 (tabulate (t .«gate_count») (λ g. toldLeast (getD (t .kinds) g 0) (getD (t .leasts) g 0)));
+  sizes = pad (limits .gates) 0 (tabulate (t .«gate_count») (λ g. getD (t .sizes) g 0));
+  «gate_count» = t .«gate_count»;
+  inputs = pad (limits .inAll) 0 (tabulate (sum (tabulate (t .«gate_count») (λ g. getD (t .sizes) g 0))) (λ i. getD (t .inputs) i 0));
+}

@@ -1,0 +1,105 @@
+// A tree's records, written.
+use crate::survey::tree_record;
+use crate::survey::within;
+use records::Tree;
+use records::format::Record;
+use records::format::width;
+use records::judge::Step;
+use records::judge::admit;
+use records::judge::begin;
+use records::judge::past_event;
+use records::judge::past_gate;
+use records::judge::past_input;
+ghost use mathlib.Core.Path.{_≡_};
+ghost use mathlib.Core.List.{_++_};
+ghost use Prim.Native.Nat.{_≤_};
+ghost use lib.ListN.{length, drop};
+ghost use Rattle.records.specs.Format.{widthOf, encode};
+ghost use Rattle.writing.specs.Bytes.{bytesOf};
+ghost use Rattle.writing.specs.Inner.{Accepted};
+
+fn put_gate(b: &mut [u8], kind: u8, k: u8, n: u8)
+    requires { ⌜ widthOf (Record.Gate kind k n) ≤ length (now b) ⌝ }
+    ensures { λ _. ⌜ now (b .exit) ≡ encode (Record.Gate kind k n) ++ drop (widthOf (Record.Gate kind k n)) (now (b .entry)) ⌝ }
+{
+    if kind == 4 {
+        b[0] = 4;
+        b[1] = k;
+        b[2] = n;
+        return;
+    }
+    b[0] = kind;
+    b[1] = n;
+}
+
+// Writes a record to the front of b.
+pub fn put(b: &mut [u8], r: Record)
+    requires { ⌜ widthOf r ≤ length (now b) ⌝ }
+    ensures { λ _. ⌜ now (b .exit) ≡ encode r ++ drop (widthOf r) (now (b .entry)) ⌝ }
+{
+    match r {
+        Record::Event(c) => {
+            b[0] = 1;
+            b[1] = (c % 256) as u8;
+            b[2] = (c / 256 % 256) as u8;
+            b[3] = (c / 65536 % 256) as u8;
+            b[4] = (c / 16777216) as u8;
+        }
+        Record::Gate(kind, k, n) => {
+            put_gate(b, kind, k, n);
+        }
+        Record::EventInput(e) => {
+            b[0] = 5;
+            b[1] = e;
+        }
+        Record::GateInput(g) => {
+            b[0] = 6;
+            b[1] = (g % 256) as u8;
+            b[2] = (g / 256) as u8;
+        }
+        Record::End => {
+            b[0] = 7;
+        }
+        Record::Unknown => {
+            b[0] = 0;
+        }
+        Record::Missing => {}
+        Record::Short => {}
+    }
+}
+
+// Writes the records of t, whose bytes are accepted, to the front of room.
+pub fn emit(t: Tree, room: &mut [u8])
+    requires { ⌜ Accepted t × (length (bytesOf t) ≤ length (now room)) ⌝ }
+    ensures { λ _. ⌜ now (room .exit) ≡ bytesOf t ++ drop (length (bytesOf t)) (now (room .entry)) ⌝ }
+{
+    let mut s = begin();
+    loop {
+        let at = s.at;
+        let n = within(s.events);
+        let e = t.events[n];
+        let r = tree_record(
+            t.event_count,
+            t.gate_count,
+            e.chance,
+            &t.kinds,
+            &t.leasts,
+            &t.sizes,
+            &t.inputs,
+            s,
+        );
+        put(&mut room[at..], r);
+        match admit(s, at + width(r), r) {
+            Step::AddEvent(_, after) => s = past_event(s, after),
+            Step::AddGate(_, _, size, after) => s = past_gate(s, size, after),
+            Step::AddInput(_, after) => s = past_input(s, after),
+            Step::Close => {
+                return;
+            }
+            // No record of an accepted tree is refused.
+            Step::Refused(_) => {
+                return;
+            }
+        }
+    }
+}

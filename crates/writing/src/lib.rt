@@ -1,0 +1,42 @@
+// Writing: a tree in memory judged as its bytes would be, and its records put into a lent room.
+mod emission; // a tree's records, written
+mod survey; // a tree in memory, judged as its bytes would be
+
+use emission::emit;
+use records::Answer;
+use records::Tree;
+use records::number;
+use survey::survey;
+ghost use mathlib.Core.Path.{_≡_};
+ghost use Rattle.paper.specs.Limits.{limits};
+ghost use Rattle.writing.specs.Bytes.{writeOf, wrote};
+
+// What writing answers: the bytes are 0 in a refusal.
+pub struct Written {
+    pub answer: Answer,
+    pub bytes: usize,
+}
+
+fn unwritten(answer: Answer) -> Written
+    ensures { λ r. ⌜ (r .answer ≡ answer) × (r .bytes ≡ 0) ⌝ }
+{
+    Written { answer, bytes: 0 }
+}
+
+// Writes a tree to the front of room: answered as its bytes would be, then Room where they do not fit. A refusal writes
+// nothing, and the room behind the bytes stays.
+pub fn write(t: Tree, room: &mut [u8]) -> Written
+    ensures { λ r. ⌜ wrote (r .answer) (r .bytes) (now (room .exit)) ≡ writeOf limits t (now (room .entry)) ⌝ }
+{
+    let v = survey(t);
+    let a = v.answer;
+    let n = v.bytes;
+    if number(a) == 0 {
+        if room.len() < n {
+            return unwritten(Answer::Room);
+        }
+        emit(t, room);
+        return v;
+    }
+    unwritten(a)
+}
