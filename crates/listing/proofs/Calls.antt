@@ -13,6 +13,7 @@ use Rattle.paper.specs.Sets.{Set, none}
 use Rattle.paper.specs.Listing.{memberBytes, cutBytes, setBytes, setsBytes}
 use Rattle.sets.specs.Words.{setOf}
 use Rattle.sets.proofs.Count.{members-length}
+use Rattle.sets.proofs.Bytes.{joined}
 use Rattle.tables.specs.Lent.{Lent}
 use Rattle.listing.specs.Paths.{ofEvents, eventsOf, along, around, Open, leftOf, Reached}
 use Rattle.listing.specs.Bytes.{Placed, picked}
@@ -49,14 +50,6 @@ same-head e = cc
 len-zero : (l : List Set) → length l ≡ 0 → l ≡ []
 len-zero [] e = refl
 len-zero (S ∷ l) e = absurd (omega arith)
-
--- the room after one cut more
-joined : (room w cut room₀ : List ℕ) (used n : ℕ) → length w ≡ used → room ≡ w ++ drop used room₀ → take used room ++ (cut ++ drop (used + n) room) ≡ (w ++ cut) ++ drop (used + n) room₀
-joined room w cut room₀ used n e b =
-    let front : take used room ≡ w = ap (take used) b ∙ take-at w (drop used room₀) used e in
-    let back : drop (used + n) room ≡ drop (used + n) room₀ =
-    ap₂ (λ (k : ℕ) (x : List ℕ). drop (k + n) x) (sym e) b ∙ drop-append-add w (drop used room₀) n ∙ drop-drop n used room₀ in
-    ap₂ (λ (x y : List ℕ). x ++ (cut ++ y)) front back ∙ sym (append-assoc w cut (drop (used + n) room₀))
 
 -- ---- the loop
 
@@ -138,7 +131,7 @@ module _ {n : ℕ} {T : List ℕ} {c : ℕ} {l : List Set} {base room₀ room P 
     next = r .left-is ∙ ap (λ (f : Bool). leftOf f T P d) is ∙ around-one T (take d P) []
 
     -- the next cut does not fit
-    module _ {w : ℕ} {room′ : List ℕ} (z : w ≡ 0) (pl : Placed n room used (along T (take d P)) w room′) where
+    module _ {w : ℕ} {room′ : List ℕ} (z : w ≡ 0) (pl : Placed room used (setBytes n (along T (take d P))) w room′) where
       pub short-inside : 0 < k → from + 2 * size ≤ length room′
       short-inside h = subst (λ (x : List ℕ). from + 2 * size ≤ length x) (sym (pl .short z .1)) (run-inside h)
 
@@ -190,7 +183,7 @@ module _ {n : ℕ} {T : List ℕ} {c : ℕ} {l : List Set} {base room₀ room P 
               })
 
     -- it was written
-    module _ {w : ℕ} {room′ : List ℕ} (z : 0 < w) (pl : Placed n room used (along T (take d P)) w room′) where
+    module _ {w : ℕ} {room′ : List ℕ} (z : 0 < w) (pl : Placed room used (setBytes n (along T (take d P))) w room′) where
       pub run-fits : used + w ≤ length room₀
       run-fits = let p = pl .placed z .1 in let l = run-long in omega arith
 
