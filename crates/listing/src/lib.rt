@@ -1,7 +1,7 @@
 // Lists the cuts of a cut diagram in order, as many as fit into a room, going on from the path of the last one.
 ghost use mathlib.Core.Path.{_≡_};
 ghost use mathlib.Core.Bool.{true};
-ghost use Prim.Native.Nat.{_+_, _*_, _≤_, _<_};
+ghost use Prim.Native.Nat.{_+_, _-_, _*_, _/_, _≤_, _<_};
 ghost use lib.ListN.{length};
 ghost use Rattle.paper.specs.Listing.{setBytes};
 ghost use Rattle.sets.specs.Words.{words, setOf};
@@ -46,21 +46,15 @@ fn read_back(room: &[u8], from: usize, size: usize) -> [u64; sets::WORDS]
     out
 }
 
-// The last set after `k` cuts: that of the last cut's bytes, or the one that the call started after.
-fn last_set(
-    room: &[u8],
-    k: usize,
-    from: usize,
-    size: usize,
-    base: [u64; sets::WORDS],
-) -> [u64; sets::WORDS]
-    requires { ⌜ (0 < k → from + 2 * size ≤ length (now room)) ⌝ }
-    ensures { λ r. ⌜ (k ≡ 0 → r ≡ base) × (0 < k → setOf r ≡ ofEvents (picked (now (room .entry)) from size)) ⌝ }
+// The last set: that of the last cut's bytes, the `wrote` before `used`; the one that the call started after where there are none.
+fn last_set(room: &[u8], used: usize, wrote: usize, base: [u64; sets::WORDS]) -> [u64; sets::WORDS]
+    requires { ⌜ (wrote ≤ used) × (used ≤ length (now room)) ⌝ }
+    ensures { λ r. ⌜ (wrote ≡ 0 → r ≡ base) × (0 < wrote → setOf r ≡ ofEvents (picked (now (room .entry)) (used - wrote) (wrote / 2))) ⌝ }
 {
-    if k == 0 {
+    if wrote == 0 {
         return base;
     }
-    read_back(room, from, size)
+    read_back(room, used - wrote, wrote / 2)
 }
 
 // What a listing call answers: its number, the cuts written, the bytes used, the last set, and whether no cut follows it.
@@ -126,25 +120,23 @@ fn list_cuts(
     let first = walk::start(nodes, n, count, root, begin, &base, &mut path, &mut set);
     let mut found = first.found;
     let mut depth = first.depth;
-    let mut from = 0;
-    let mut size = 0;
+    let mut wrote = 0;
     let mut used = 0;
     let mut k = 0;
     while found {
         let w = put_next(&set, room, used);
         if w == 0 {
-            let last = last_set(room, k, from, size, base);
+            let last = last_set(room, used, wrote, base);
             return stopped(k, used, last);
         }
-        from = used;
-        size = depth;
+        wrote = w;
         used += w;
         k += 1;
         let next = walk::advance(nodes, n, count, &mut path, &mut set, depth);
         found = next.found;
         depth = next.depth;
     }
-    let last = last_set(room, k, from, size, base);
+    let last = last_set(room, used, wrote, base);
     done(k, used, last, true)
 }
 

@@ -11,15 +11,15 @@ use native.Mathlib.Omega.{arith}
 use lib.Dec.{eqb}
 use lib.ListN.{length, getD, take, drop, set, length-append, length-drop, take-append-drop}
 use lib.Seq.{set-at, take-at, drop-cons, drop-drop, drop-append-add, length-take-le}
-use lib.Bits.{bitXor}
+use lib.Bits.{bitAnd}
 use borrow.Author.Tests.{eq-eqb, ne-eqb}
 use Rattle.paper.specs.Lists.{keep, upTo}
 use Rattle.paper.specs.Sets.{Set, put, members}
 use Rattle.paper.specs.Listing.{memberBytes, cutBytes, setBytes}
 use Rattle.sets.specs.Words.{bit, setOf, room, Trail}
 use Rattle.sets.specs.Bytes.{wordSet, inWord, InByte, OneByte, Laid}
-use Rattle.sets.proofs.Bit.{bit-none}
-use Rattle.sets.proofs.Words.{set-in, clear-own, clear-other}
+use Rattle.sets.proofs.Bit.{bit-none, drop-own, drop-other}
+use Rattle.sets.proofs.Words.{set-in}
 use Rattle.sets.proofs.Count.{keep-add, members-length, cut-length}
 
 -- ---- the members among some events
@@ -54,21 +54,21 @@ unfolding wordSet inWord
 word-none w m z = keep-no (wordSet w m) 64 m (λ j. ap (λ (n : ℕ). eqb n 1) (ap (λ (n : ℕ). bit n (j - m)) z ∙ bit-none (j - m)))
 
 -- the lowest set bit, and the word without it
-pub word-more : (w m : ℕ) {t : ℕ} → Trail w 64 t → inWord w m ≡ (m + t) ∷ inWord (bitXor w ((1 * 2 ^ t) % 2 ^ 64)) m
+pub word-more : (w m : ℕ) {t : ℕ} → Trail w 64 t → inWord w m ≡ (m + t) ∷ inWord (bitAnd w (w - 1)) m
 unfolding wordSet inWord
 word-more w m {t} r =
     let b = r .below in
     keep-first (wordSet w m) 64 m (m + t) (omega arith) (omega arith) (at t 1 (r .set)) (λ j p q. ap (λ (n : ℕ). eqb n 1) (r .clear (j - m) (omega arith)))
-    ∙ ap (λ (l : List ℕ). (m + t) ∷ l) (keep-agree (put (m + t) false (wordSet w m)) (wordSet (bitXor w ((1 * 2 ^ t) % 2 ^ 64)) m) 64 m (λ j p q. same j p (ℕ-discrete j (m + t))))
+    ∙ ap (λ (l : List ℕ). (m + t) ∷ l) (keep-agree (put (m + t) false (wordSet w m)) (wordSet (bitAnd w (w - 1)) m) 64 m (λ j p q. same j p (ℕ-discrete j (m + t))))
   where
     at : (j v : ℕ) → bit w j ≡ v → wordSet w m (m + j) ≡ eqb v 1
     at j v e = let q : m + j - m ≡ j = omega arith in ap (λ (n : ℕ). eqb (bit w n) 1) q ∙ ap (λ (n : ℕ). eqb n 1) e
 
-    same : (j : ℕ) → m ≤ j → Dec (j ≡ m + t) → put (m + t) false (wordSet w m) j ≡ wordSet (bitXor w ((1 * 2 ^ t) % 2 ^ 64)) m j
+    same : (j : ℕ) → m ≤ j → Dec (j ≡ m + t) → put (m + t) false (wordSet w m) j ≡ wordSet (bitAnd w (w - 1)) m j
     same j p (yes q) =
         let d : j - m ≡ t = omega arith in
-        rw (eq-eqb j (m + t) q) (sym (ap (λ (n : ℕ). eqb n 1) (ap (bit (bitXor w ((1 * 2 ^ t) % 2 ^ 64))) d ∙ clear-own w t (r .below) (r .set))))
-    same j p (no q) = rw (ne-eqb j (m + t) q) (sym (ap (λ (n : ℕ). eqb n 1) (clear-other w t (j - m) (r .below) (λ z. q (omega arith)))))
+        rw (eq-eqb j (m + t) q) (sym (ap (λ (n : ℕ). eqb n 1) (ap (bit (bitAnd w (w - 1))) d ∙ drop-own r)))
+    same j p (no q) = rw (ne-eqb j (m + t) q) (sym (ap (λ (n : ℕ). eqb n 1) (drop-other r (j - m) (λ z. q (omega arith)))))
 
 -- word k of some words
 word-of : (ws : List ℕ) (k : ℕ) → inWord (getD ws k 0) (k * 64) ≡ keep (setOf ws) (upTo 64 (k * 64))
@@ -158,10 +158,10 @@ module _ {w m at : ℕ} {r room : List ℕ} {v end : ℕ} (s : Telling w m at r 
       ap length (s .bytes) ∙ length-append (take at r ++ memberBytes (s .told)) (drop end r) ∙ ap₂ _+_ b (length-drop end r) ∙ omega arith
 
   module _ {t : ℕ} (tr : Trail v 64 t) where
-    more : length (inWord v m) ≡ suc (length (inWord (bitXor v ((1 * 2 ^ t) % 2 ^ 64)) m))
+    more : length (inWord v m) ≡ suc (length (inWord (bitAnd v (v - 1)) m))
     more = ap length (word-more v m tr)
 
-    pub tell-less : length (inWord (bitXor v ((1 * 2 ^ t) % 2 ^ 64)) m) < length (inWord v m)
+    pub tell-less : length (inWord (bitAnd v (v - 1)) m) < length (inWord v m)
     tell-less = let q = more in omega arith
 
     pub tell-room : end + 2 ≤ length r
@@ -172,7 +172,7 @@ module _ {w m at : ℕ} {r room : List ℕ} {v end : ℕ} (s : Telling w m at r 
         let e = s .ends in
         omega arith
 
-    pub tell-more : Telling w m at r (set (set room end 0x21) (end + 1) (m + t)) (bitXor v ((1 * 2 ^ t) % 2 ^ 64)) (end + 2)
+    pub tell-more : Telling w m at r (set (set room end 0x21) (end + 1) (m + t)) (bitAnd v (v - 1)) (end + 2)
     tell-more =
         let x = take at r ++ memberBytes (s .told) in
         let h = tell-room in
@@ -184,7 +184,7 @@ module _ {w m at : ℕ} {r room : List ℕ} {v end : ℕ} (s : Telling w m at r 
         let la = length-append (s .told) ((m + t) ∷ []) in
         record {
           told = s .told ++ ((m + t) ∷ []);
-          whole = s .whole ∙ ap (λ (l : List ℕ). s .told ++ l) (word-more v m tr) ∙ sym (append-assoc (s .told) ((m + t) ∷ []) (inWord (bitXor v ((1 * 2 ^ t) % 2 ^ 64)) m));
+          whole = s .whole ∙ ap (λ (l : List ℕ). s .told ++ l) (word-more v m tr) ∙ sym (append-assoc (s .told) ((m + t) ∷ []) (inWord (bitAnd v (v - 1)) m));
           fits = s .fits;
           ends = omega arith;
           bytes = two ∙ ap₂ (λ (y : List ℕ) (j : ℕ). y ++ drop j r) (append-assoc x (0x21 ∷ []) ((m + t) ∷ []) ∙ append-assoc (take at r) (memberBytes (s .told)) (0x21 ∷ (m + t) ∷ [])

@@ -193,13 +193,13 @@ put-word ws i u v h e o = fun-ext (λ j. go j (ℕ-discrete j i) (ℕ-discrete (
     go j (no q) (no p) = rw (ne-eqb j i q) (ap (λ (n : ℕ). eqb (bit n (j % 64)) 1) (getD-set-other ws (i / 64) (j / 64) u 0 p))
 
 -- one bit, as the code shifts it
-pub one-bit : (t : ℕ) → t < 64 → (1 * 2 ^ t) % 2 ^ 64 ≡ 2 ^ t
+one-bit : (t : ℕ) → t < 64 → (1 * 2 ^ t) % 2 ^ 64 ≡ 2 ^ t
 one-bit t f = ap (λ (n : ℕ). n % 2 ^ 64) (one-mul (2 ^ t)) ∙ mod-eq-of-lt (pow-lt f)
 
-pub bit-one : (t : ℕ) → t < 64 → bit ((1 * 2 ^ t) % 2 ^ 64) t ≡ 1
+bit-one : (t : ℕ) → t < 64 → bit ((1 * 2 ^ t) % 2 ^ 64) t ≡ 1
 bit-one t f = ap (λ (n : ℕ). bit n t) (one-bit t f) ∙ bit-own t
 
-pub bit-rest : (t r : ℕ) → t < 64 → (r ≡ t → ⊥) → bit ((1 * 2 ^ t) % 2 ^ 64) r ≡ 0
+bit-rest : (t r : ℕ) → t < 64 → (r ≡ t → ⊥) → bit ((1 * 2 ^ t) % 2 ^ 64) r ≡ 0
 bit-rest t r f n = ap (λ (q : ℕ). bit q r) (one-bit t f) ∙ bit-other t r n
 
 -- `|` with the bit
@@ -225,10 +225,10 @@ differ-none zero y e = e
 differ-none (suc x) zero e = refl
 differ-none (suc x) (suc y) e = absurd (omega arith)
 
-pub clear-own : (w t : ℕ) → t < 64 → bit w t ≡ 1 → bit (bitXor w ((1 * 2 ^ t) % 2 ^ 64)) t ≡ 0
+clear-own : (w t : ℕ) → t < 64 → bit w t ≡ 1 → bit (bitXor w ((1 * 2 ^ t) % 2 ^ 64)) t ≡ 0
 clear-own w t f e = bit-xor w ((1 * 2 ^ t) % 2 ^ 64) t ∙ ap₂ differ e (bit-one t f) ∙ differ-self 1
 
-pub clear-other : (w t r : ℕ) → t < 64 → (r ≡ t → ⊥) → bit (bitXor w ((1 * 2 ^ t) % 2 ^ 64)) r ≡ bit w r
+clear-other : (w t r : ℕ) → t < 64 → (r ≡ t → ⊥) → bit (bitXor w ((1 * 2 ^ t) % 2 ^ 64)) r ≡ bit w r
 clear-other w t r f n = bit-xor w ((1 * 2 ^ t) % 2 ^ 64) r ∙ differ-none (bit w r) (bit ((1 * 2 ^ t) % 2 ^ 64) r) (bit-rest t r f n)
 
 pub take-out : (ws : List ℕ) (i : ℕ) → i < room ws → setOf ws i ≡ true → setOf (set ws (i / 64) (bitXor (getD ws (i / 64) 0) ((1 * 2 ^ (i % 64)) % 2 ^ 64))) ≡ put i false (setOf ws)

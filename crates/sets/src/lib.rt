@@ -130,7 +130,7 @@ fn write_word(w: u64, base: usize, left: &mut [u8], at: usize) -> usize
         left[end] = 0x21;
         left[end + 1] = (base + t) as u8;
         end += 2;
-        v = v ^ (1u64 << t);
+        v = v & (v - 1);
     }
     end
 }

@@ -37,8 +37,8 @@ slice-write-left-2 c = simp length-set (omega (arith, tell-room (c .before .befo
 add-end : tie.Need-add-end Inv-loop μ-loop
 add-end c = omega (arith, tell-room (c .before .before .loop .inv) (c .low-bit .ensures))
 
-shl-v : tie.Need-shl-v Inv-loop μ-loop
-shl-v c = omega (arith, c .low-bit .ensures .below)
+sub-v : tie.Need-sub-v Inv-loop μ-loop
+sub-v c = omega arith
 
 loop-less : tie.Need-loop-less Inv-loop μ-loop
 loop-less c = tell-less (c .before .before .loop .inv) (c .low-bit .ensures)
@@ -66,7 +66,7 @@ write-word-spec =
     add-left-2
     slice-write-left-2
     add-end
-    shl-v
+    sub-v
     loop-less
     loop-again
     same-length
