@@ -53,8 +53,8 @@ len-zero (S ∷ l) e = absurd (omega arith)
 
 -- ---- the loop
 
--- where the loop is: the cuts written, the last of them in m bytes, and those left, the first of which is the path's
-pub record Run (n : ℕ) (T : List ℕ) (c : ℕ) (l : List Set) (base room₀ room P : List ℕ) (found : Bool) (d m used k : ℕ) : Type 0 where
+-- where the loop is: the cuts written, the last of them in the bytes from `from` on, and those left, the first of which is the path's
+pub record Run (n : ℕ) (T : List ℕ) (c : ℕ) (l : List Set) (base room₀ room P : List ℕ) (found : Bool) (d from used k : ℕ) : Type 0 where
   pub written : List Set
   pub left : List Set
   pub path : Open n T c P d 1
@@ -66,9 +66,9 @@ pub record Run (n : ℕ) (T : List ℕ) (c : ℕ) (l : List Set) (base room₀ r
   pub bytes-used : used ≡ length (setsBytes n written)
   pub bytes : room ≡ setsBytes n written ++ drop used room₀
   pub within : used ≤ length room₀
-  pub m-le : m ≤ used
-  pub none : k ≡ 0 → m ≡ 0
-  pub last : 0 < k → (0 < m) × (ofEvents (picked room (used - m) (m / 2)) ≡ lastOr (setOf base) written)
+  pub from-le : from ≤ used
+  pub none : k ≡ 0 → used ≤ from
+  pub last : 0 < k → (from < used) × (ofEvents (picked room from ((used - from) / 2)) ≡ lastOr (setOf base) written)
 
 pub run-start : {n : ℕ} {T : List ℕ} {c : ℕ} {l : List Set} {P : List ℕ} {found : Bool} {d : ℕ} (base room₀ : List ℕ) → Reached n T c P found d l → length P ≡ limits .events → Run n T c l base room₀ room₀ P found d 0 0 0
 run-start {l = l} base room₀ r q = record {
@@ -83,20 +83,20 @@ run-start {l = l} base room₀ r q = record {
   bytes-used = refl;
   bytes = refl;
   within = omega arith;
-  m-le = omega arith;
-  none = λ h. refl;
+  from-le = omega arith;
+  none = λ h. omega arith;
   last = λ h. absurd (omega arith);
 }
 
-module _ {n : ℕ} {T : List ℕ} {c : ℕ} {l : List Set} {base room₀ room P : List ℕ} {found : Bool} {d m used k : ℕ} (r : Run n T c l base room₀ room P found d m used k) where
+module _ {n : ℕ} {T : List ℕ} {c : ℕ} {l : List Set} {base room₀ room P : List ℕ} {found : Bool} {d from used k : ℕ} (r : Run n T c l base room₀ room P found d from used k) where
   pub run-long : length room ≡ length room₀
   run-long = let h = r .within in let u = r .bytes-used in ap length (r .bytes) ∙ simp (length-append, length-drop) (omega arith)
 
-  pub run-inside : (m ≤ used) × (used ≤ length room)
-  run-inside = (r .m-le, let l = run-long in let h = r .within in omega arith)
+  pub run-inside : (from ≤ used) × (used ≤ length room)
+  run-inside = (r .from-le, let l = run-long in let h = r .within in omega arith)
 
   -- the last set, as it was read back
-  run-last : (last : List ℕ) → (m ≡ 0 → last ≡ base) → (0 < m → setOf last ≡ ofEvents (picked room (used - m) (m / 2))) → setOf last ≡ lastOr (setOf base) (r .written)
+  run-last : (last : List ℕ) → (used ≤ from → last ≡ base) → (from < used → setOf last ≡ ofEvents (picked room from ((used - from) / 2))) → setOf last ≡ lastOr (setOf base) (r .written)
   run-last last z s = go k refl
     where
       go : (j : ℕ) → k ≡ j → setOf last ≡ lastOr (setOf base) (r .written)
@@ -104,7 +104,7 @@ module _ {n : ℕ} {T : List ℕ} {c : ℕ} {l : List Set} {base room₀ room P 
       go (suc j) e = let h = r .last (omega arith) in s (h .0) ∙ h .1
 
   -- the loop ends: no cut is left
-  pub run-end : {last : List ℕ} {a k′ used′ : ℕ} {last′ : List ℕ} {fin : Bool} → found ≡ false → (m ≡ 0 → last ≡ base) × (0 < m → setOf last ≡ ofEvents (picked room (used - m) (m / 2)))
+  pub run-end : {last : List ℕ} {a k′ used′ : ℕ} {last′ : List ℕ} {fin : Bool} → found ≡ false → (used ≤ from → last ≡ base) × (from < used → setOf last ≡ ofEvents (picked room from ((used - from) / 2)))
       → (a ≡ 0) × (k′ ≡ k) × (used′ ≡ used) × (last′ ≡ last) × (fin ≡ true) → Listing n l (setOf base) room₀ room a k′ used′ last′ fin
   run-end {last} e q y =
       let z : r .left ≡ [] = r .left-is ∙ ap (λ (f : Bool). leftOf f T P d) e in
@@ -131,10 +131,10 @@ module _ {n : ℕ} {T : List ℕ} {c : ℕ} {l : List Set} {base room₀ room P 
 
     -- the next cut does not fit
     module _ {w : ℕ} {room′ : List ℕ} (z : w ≡ 0) (pl : Placed room used (setBytes n (along T (take d P))) w room′) where
-      pub short-inside : (m ≤ used) × (used ≤ length room′)
-      short-inside = subst (λ (x : List ℕ). (m ≤ used) × (used ≤ length x)) (sym (pl .short z .1)) run-inside
+      pub short-inside : (from ≤ used) × (used ≤ length room′)
+      short-inside = subst (λ (x : List ℕ). (from ≤ used) × (used ≤ length x)) (sym (pl .short z .1)) run-inside
 
-      pub run-short : {last : List ℕ} {a k′ used′ : ℕ} {last′ : List ℕ} {fin : Bool} → (m ≡ 0 → last ≡ base) × (0 < m → setOf last ≡ ofEvents (picked room′ (used - m) (m / 2)))
+      pub run-short : {last : List ℕ} {a k′ used′ : ℕ} {last′ : List ℕ} {fin : Bool} → (used ≤ from → last ≡ base) × (from < used → setOf last ≡ ofEvents (picked room′ from ((used - from) / 2)))
           → Stopped k used last a k′ used′ last′ fin → Listing n l (setOf base) room₀ room′ a k′ used′ last′ fin
       run-short {last} {a} {k′} {used′} {last′} {fin} q st = judge k refl
         where
@@ -177,7 +177,7 @@ module _ {n : ℕ} {T : List ℕ} {c : ℕ} {l : List Set} {base room₀ room P 
                 cuts = y .1 ∙ r .count;
                 long = y .2 ∙ r .bytes-used;
                 bytes = pl .short z .1 ∙ r .bytes ∙ ap (λ (j : ℕ). setsBytes n (r .written) ++ drop j room₀) (sym (y .2));
-                last-set = ap setOf (y .3) ∙ run-last last (q .0) (λ h. q .1 h ∙ ap (λ (x : List ℕ). ofEvents (picked x (used - m) (m / 2))) (pl .short z .1));
+                last-set = ap setOf (y .3) ∙ run-last last (q .0) (λ h. q .1 h ∙ ap (λ (x : List ℕ). ofEvents (picked x from ((used - from) / 2))) (pl .short z .1));
                 end = (λ t. absurd (false≢true (sym (y .4) ∙ t)), λ x. absurd (nil-cons (sym x ∙ next)));
               })
 
@@ -190,7 +190,7 @@ module _ {n : ℕ} {T : List ℕ} {c : ℕ} {l : List Set} {base room₀ room P 
       run-less = let p = run-fits in omega arith
 
       -- the last cut's bytes are read as its events
-      stands : ofEvents (picked room′ (used + w - w) (w / 2)) ≡ along T (take d P)
+      stands : ofEvents (picked room′ used ((used + w - used) / 2)) ≡ along T (take d P)
       unfolding cutBytes
       stands =
           let p = pl .placed z in
@@ -204,12 +204,11 @@ module _ {n : ℕ} {T : List ℕ} {c : ℕ} {l : List Set} {base room₀ room P 
           p .2 ∙ ap (λ (x : List ℕ). take used room ++ (x ++ drop (used + w) room)) (path-bytes (r .path) n (omega arith))
           ∙ ap (λ (x : List ℕ). take used room ++ x) (append-assoc (memberBytes t) (0x22 ∷ []) (drop (used + w) room)) in
           let front : length (take used room) ≡ used = length-take-le used room (omega arith) in
-          let from : used + w - w ≡ used = omega arith in
-          let many : w / 2 ≡ length t = let e = events-length (r .path) in omega arith in
-          ap ofEvents (ap₂ (λ (i j : ℕ). picked room′ i j) from many ∙ ap (λ (R : List ℕ). picked R used (length t)) is ∙ picked-all (take used room) t back used front)
+          let many : (used + w - used) / 2 ≡ length t = let e = events-length (r .path) in omega arith in
+          ap ofEvents (ap (picked room′ used) many ∙ ap (λ (R : List ℕ). picked R used (length t)) is ∙ picked-all (take used room) t back used front)
 
       pub run-more : {P′ : List ℕ} {found′ : Bool} {d′ : ℕ} → Reached n T c P′ found′ d′ (around T (take d P) []) → length P′ ≡ limits .events
-          → Run n T c l base room₀ room′ P′ found′ d′ w (used + w) (k + 1)
+          → Run n T c l base room₀ room′ P′ found′ d′ used (used + w) (k + 1)
       run-more re long′ =
           let p = pl .placed z in
           let S = along T (take d P) in
@@ -228,7 +227,7 @@ module _ {n : ℕ} {T : List ℕ} {c : ℕ} {l : List Set} {base room₀ room P 
             bytes-used = ap₂ _+_ (r .bytes-used) (p .0) ∙ sym (ap length (bytes-more n (r .written) S) ∙ length-append (setsBytes n (r .written)) (setBytes n S));
             bytes = p .2 ∙ joined room (setsBytes n (r .written)) (setBytes n S) room₀ used w used-is (r .bytes) ∙ ap (λ (x : List ℕ). x ++ drop (used + w) room₀) (sym (bytes-more n (r .written) S));
             within = run-fits;
-            m-le = omega arith;
+            from-le = omega arith;
             none = λ h. absurd (omega arith);
-            last = λ _. (z, stands ∙ sym (last-more (setOf base) (r .written) S));
+            last = λ _. (omega arith, stands ∙ sym (last-more (setOf base) (r .written) S));
           }

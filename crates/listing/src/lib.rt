@@ -46,15 +46,15 @@ fn read_back(room: &[u8], from: usize, size: usize) -> [u64; sets::WORDS]
     out
 }
 
-// The last set: that of the last cut's bytes, the `wrote` before `used`; the one that the call started after where there are none.
-fn last_set(room: &[u8], used: usize, wrote: usize, base: [u64; sets::WORDS]) -> [u64; sets::WORDS]
-    requires { ⌜ (wrote ≤ used) × (used ≤ length (now room)) ⌝ }
-    ensures { λ r. ⌜ (wrote ≡ 0 → r ≡ base) × (0 < wrote → setOf r ≡ ofEvents (picked (now (room .entry)) (used - wrote) (wrote / 2))) ⌝ }
+// The last set: that of the last cut, whose bytes run from `from` to `used`; the one that the call started after where there are none.
+fn last_set(room: &[u8], from: usize, used: usize, base: [u64; sets::WORDS]) -> [u64; sets::WORDS]
+    requires { ⌜ (from ≤ used) × (used ≤ length (now room)) ⌝ }
+    ensures { λ r. ⌜ (used ≤ from → r ≡ base) × (from < used → setOf r ≡ ofEvents (picked (now (room .entry)) from ((used - from) / 2))) ⌝ }
 {
-    if wrote == 0 {
+    if from == used {
         return base;
     }
-    read_back(room, used - wrote, wrote / 2)
+    read_back(room, from, (used - from) / 2)
 }
 
 // What a listing call answers: its number, the cuts written, the bytes used, the last set, and whether no cut follows it.
@@ -120,23 +120,23 @@ fn list_cuts(
     let first = walk::start(nodes, n, count, root, begin, &base, &mut path, &mut set);
     let mut found = first.found;
     let mut depth = first.depth;
-    let mut wrote = 0;
+    let mut from = 0;
     let mut used = 0;
     let mut k = 0;
     while found {
         let w = put_next(&set, room, used);
         if w == 0 {
-            let last = last_set(room, used, wrote, base);
+            let last = last_set(room, from, used, base);
             return stopped(k, used, last);
         }
-        wrote = w;
+        from = used;
         used += w;
         k += 1;
         let next = walk::advance(nodes, n, count, &mut path, &mut set, depth);
         found = next.found;
         depth = next.depth;
     }
-    let last = last_set(room, used, wrote, base);
+    let last = last_set(room, from, used, base);
     done(k, used, last, true)
 }
 

@@ -83,13 +83,24 @@ members-word ws k =
     ap (λ (n : ℕ). members n (setOf ws)) end ∙ keep-add (setOf ws) (k * 64) 64 0
     ∙ ap (λ (l : List ℕ). members (k * 64) (setOf ws) ++ l) (ap (λ (n : ℕ). keep (setOf ws) (upTo 64 n)) (zero-add (k * 64)) ∙ sym (word-of ws k))
 
--- those among fewer events are no more
-fewer : (S : Set) (a n : ℕ) → a ≤ n → length (members a S) ≤ length (members n S)
-fewer S a n h =
-    let e : n ≡ a + (n - a) = omega arith in
-    let q : length (members n S) ≡ length (members a S) + length (keep S (upTo (n - a) (0 + a))) =
-    ap (λ (k : ℕ). length (members k S)) e ∙ ap length (keep-add S a (n - a) 0) ∙ length-append (members a S) (keep S (upTo (n - a) (0 + a))) in
-    omega arith
+-- those among fewer events are no more, and all of them where they are as many
+module _ (S : Set) (a n : ℕ) (h : a ≤ n) where
+  two-parts : members n S ≡ members a S ++ keep S (upTo (n - a) (0 + a))
+  two-parts = let e : n ≡ a + (n - a) = omega arith in ap (λ (k : ℕ). members k S) e ∙ keep-add S a (n - a) 0
+
+  fewer : length (members a S) ≤ length (members n S)
+  fewer =
+      let q : length (members n S) ≡ length (members a S) + length (keep S (upTo (n - a) (0 + a))) = ap length two-parts ∙ length-append (members a S) (keep S (upTo (n - a) (0 + a))) in
+      omega arith
+
+  no-more : length (members a S) ≡ length (members n S) → members n S ≡ members a S
+  no-more e =
+      let q : length (members n S) ≡ length (members a S) + length (keep S (upTo (n - a) (0 + a))) = ap length two-parts ∙ length-append (members a S) (keep S (upTo (n - a) (0 + a))) in
+      two-parts ∙ ap (λ (l : List ℕ). members a S ++ l) (len-zero (keep S (upTo (n - a) (0 + a))) (omega arith)) ∙ append-nil (members a S)
+    where
+      len-zero : (l : List ℕ) → length l ≡ 0 → l ≡ []
+      len-zero [] z = refl
+      len-zero (x ∷ l) z = absurd (omega arith)
 
 -- ---- written
 
@@ -200,14 +211,14 @@ module _ {w m at : ℕ} {r room : List ℕ} {v end : ℕ} (s : Telling w m at r 
 
 -- ---- the members of all words
 
--- those of the first k words are written at the front of the room r, which is long enough
+-- those of the first k words are written at the front of the room r, which is long enough for all
 pub record Spelling (ws r R : List ℕ) (k at : ℕ) : Type 0 where
   pub low : k ≤ length ws
-  pub fits : length (setBytes (room ws) (setOf ws)) ≤ length r
+  pub fits : length (memberBytes (members (room ws) (setOf ws))) ≤ length r
   pub ends : at ≡ length (memberBytes (members (k * 64) (setOf ws)))
   pub bytes : R ≡ memberBytes (members (k * 64) (setOf ws)) ++ drop at r
 
-pub spell-start : (ws r : List ℕ) {size : ℕ} → size ≡ length (setBytes (room ws) (setOf ws)) → size ≤ length r → Spelling ws r r 0 0
+pub spell-start : (ws r : List ℕ) {size : ℕ} → size ≡ length (memberBytes (members (room ws) (setOf ws))) → size ≤ length r → Spelling ws r r 0 0
 unfolding memberBytes
 spell-start ws r q h = record { low = omega arith; fits = omega arith; ends = refl; bytes = refl }
 
@@ -215,13 +226,13 @@ module _ {ws r R : List ℕ} {k at : ℕ} (s : Spelling ws r R k at) where
   abbrev S : Set
   S = setOf ws
 
-  inside : at + 1 ≤ length r
+  inside : at ≤ length r
   inside =
       let f = s .fits in
       let e = s .ends in
       let l = s .low in
       let a = members-length (members (k * 64) S) in
-      let b = cut-length (members (room ws) S) in
+      let b = members-length (members (room ws) S) in
       let c = fewer S (k * 64) (room ws) (omega arith) in
       omega arith
 
@@ -243,7 +254,7 @@ module _ {ws r R : List ℕ} {k at : ℕ} (s : Spelling ws r R k at) where
         let l = longer in
         let g = spell-long in
         let a = members-length (members ((k + 1) * 64) S) in
-        let b = cut-length (members (room ws) S) in
+        let b = members-length (members (room ws) S) in
         let c = fewer S ((k + 1) * 64) (room ws) (omega arith) in
         omega arith
 
@@ -258,29 +269,42 @@ module _ {ws r R : List ℕ} {k at : ℕ} (s : Spelling ws r R k at) where
               ∙ ap₂ (λ (x : List ℕ) (j : ℕ). x ++ drop j r) (sym (ap memberBytes (members-word ws k) ∙ bytes-append (members (k * 64) S) (inWord (getD ws k 0) (k * 64)))) (sym e);
         }
 
-  pub spell-here : at < length R
-  spell-here = let i = inside in let l = spell-long in omega arith
-
-  pub spell-end : {size : ℕ} → length ws ≤ k → size ≡ length (setBytes (room ws) S) → Laid (setBytes (room ws) S) r size (set R at 0x22)
-  unfolding cutBytes
-  spell-end {size} h q =
+  -- all of them are, where no byte is left to write
+  pub spell-full : {size : ℕ} → size ≡ length (memberBytes (members (room ws) S)) → at ≡ size → R ≡ memberBytes (members (room ws) S) ++ drop size r
+  spell-full q e =
       let l = s .low in
-      let i = inside in
-      let f = s .fits in
+      let a = members-length (members (k * 64) S) in
+      let b = members-length (members (room ws) S) in
+      let t = s .ends in
+      s .bytes ∙ ap₂ (λ (x : List ℕ) (j : ℕ). memberBytes x ++ drop j r) (sym (no-more S (k * 64) (room ws) (omega arith) (omega arith))) e
+
+  -- or where no word is left
+  pub spell-end : {size : ℕ} → size ≡ length (memberBytes (members (room ws) S)) → length ws ≤ k → R ≡ memberBytes (members (room ws) S) ++ drop size r
+  spell-end q h =
+      let l = s .low in
       let all : k ≡ length ws = omega arith in
-      let c = cut-length (members (room ws) S) in
-      let e : at ≡ length (memberBytes (members (room ws) S)) = s .ends ∙ ap (λ (m : ℕ). length (memberBytes (members (m * 64) S))) all in
-      let a = members-length (members (room ws) S) in
-      let long : at + 1 ≡ size = omega arith in
-      record {
-        short = λ z. absurd (omega arith);
-        laid = λ z. (
-          q,
-          omega arith,
-          ap (λ (x : List ℕ). set x at 0x22) (s .bytes) ∙ seam (memberBytes (members (k * 64) S)) r at 0x22 (sym (s .ends)) (omega arith)
-              ∙ ap₂ (λ (m j : ℕ). (memberBytes (members (m * 64) S) ++ (0x22 ∷ [])) ++ drop j r) all long,
-        );
-      }
+      spell-full q (s .ends ∙ ap (λ (m : ℕ). length (memberBytes (members (m * 64) S))) all ∙ sym q)
+
+-- ---- a cut
+
+-- with the end of the cut behind its members
+pub laid-cut : (l r : List ℕ) {size : ℕ} {R : List ℕ} → size ≡ length (cutBytes l) → size ≤ length r → R ≡ memberBytes l ++ drop (size - 1) r → Laid (cutBytes l) r size (set R (size - 1) 0x22)
+unfolding cutBytes
+laid-cut l r {size} {R} q h b =
+    let c = cut-length l in
+    let a = members-length l in
+    let e : size - 1 + 1 ≡ size = omega arith in
+    record {
+      short = λ z. absurd (omega arith);
+      laid = λ z. (q, h, ap (λ (x : List ℕ). set x (size - 1) 0x22) b ∙ seam (memberBytes l) r (size - 1) 0x22 (omega arith) (omega arith) ∙ ap (λ (j : ℕ). (memberBytes l ++ (0x22 ∷ [])) ++ drop j r) e);
+    }
 
 pub laid-short : (cut r : List ℕ) {size : ℕ} → size ≡ length cut → length r < size → Laid cut r 0 r
 laid-short cut r q h = record { short = λ _. (omega arith, refl); laid = λ z. absurd (omega arith) }
+
+-- the bytes of its members are one less
+pub members-less : (l : List ℕ) {size : ℕ} → size ≡ length (cutBytes l) → size - 1 ≡ length (memberBytes l)
+members-less l q = let c = cut-length l in let a = members-length l in omega arith
+
+pub cut-some : (l : List ℕ) {size : ℕ} → size ≡ length (cutBytes l) → 1 ≤ size
+cut-some l q = let c = cut-length l in omega arith

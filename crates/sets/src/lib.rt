@@ -5,7 +5,7 @@ ghost use mathlib.Core.Bool.{true, false};
 ghost use mathlib.Core.List.{_++_};
 ghost use Prim.Native.Nat.{_+_, _*_, _≤_, _<_};
 ghost use lib.ListN.{length, replicate, take, drop};
-ghost use Rattle.paper.specs.Sets.{put};
+ghost use Rattle.paper.specs.Sets.{put, members};
 ghost use Rattle.paper.specs.Order.{Before};
 ghost use Rattle.paper.specs.Listing.{memberBytes, setBytes};
 ghost use Rattle.sets.specs.Words.{words, setOf, room, Few, sizeOf, Trail, Lowest, Differ};
@@ -51,8 +51,9 @@ pub fn add(ws: &mut [u64], i: usize)
     requires { ⌜ i < room (now ws) ⌝ }
     ensures { λ _. ⌜ setOf (now (ws .exit)) ≡ put i true (setOf (now (ws .entry))) ⌝ }
 {
+    let b = 1u64 << (i % 64);
     let k = i / 64;
-    ws[k] = ws[k] | (1u64 << (i % 64));
+    ws[k] = ws[k] | b;
 }
 
 // Takes member `i` out.
@@ -60,8 +61,9 @@ pub fn remove(ws: &mut [u64], i: usize)
     requires { ⌜ (i < room (now ws)) × (setOf (now ws) i ≡ true) ⌝ }
     ensures { λ _. ⌜ setOf (now (ws .exit)) ≡ put i false (setOf (now (ws .entry))) ⌝ }
 {
+    let b = 1u64 << (i % 64);
     let k = i / 64;
-    ws[k] = ws[k] ^ (1u64 << (i % 64));
+    ws[k] = ws[k] ^ b;
 }
 
 // The lowest member in the words from `from` on, or the room where there is none.
@@ -135,6 +137,22 @@ fn write_word(w: u64, base: usize, left: &mut [u8], at: usize) -> usize
     end
 }
 
+// Writes all members, whose bytes are `size`, at the front of the room that is left.
+fn write_members(ws: &[u64], left: &mut [u8], size: usize)
+    requires { ⌜ OneByte (now ws) × (size ≡ length (memberBytes (members (room (now ws)) (setOf (now ws))))) × (size ≤ length (now left)) ⌝ }
+    ensures { λ _. ⌜ now (left .exit) ≡ memberBytes (members (room (now (ws .entry))) (setOf (now (ws .entry)))) ++ drop size (now (left .entry)) ⌝ }
+{
+    let mut k = 0;
+    let mut at = 0;
+    while k < ws.len() {
+        at = write_word(ws[k], k * 64, left, at);
+        if at == size {
+            return;
+        }
+        k += 1;
+    }
+}
+
 // Writes a cut at the front of the room that is left, if it fits there, and says how many bytes it took: 0 where it does not fit.
 pub fn write_cut(ws: &[u64], left: &mut [u8]) -> usize
     requires { ⌜ OneByte (now ws) ⌝ }
@@ -144,13 +162,8 @@ pub fn write_cut(ws: &[u64], left: &mut [u8]) -> usize
     if left.len() < size {
         return 0;
     }
-    let mut k = 0;
-    let mut at = 0;
-    while k < ws.len() {
-        at = write_word(ws[k], k * 64, left, at);
-        k += 1;
-    }
-    left[at] = 0x22;
+    write_members(ws, left, size - 1);
+    left[size - 1] = 0x22;
     size
 }
 

@@ -13,10 +13,10 @@ use Rattle.listing.proofs.list_cuts.Statement.{statement}
 use Rattle.listing.proofs.list_cuts.Tie as tie
 
 abbrev Inv-loop : tie.InvT-loop
-Inv-loop nodes n count root begin room₀ base path₀ set₀ found₀ depth₀ wrote₀ used₀ k₀ room path set found depth wrote used k = Run n nodes count (toList n (den nodes root) begin base) base room₀ room path found depth wrote used k × Carries nodes path depth set
+Inv-loop nodes n count root begin room₀ base path₀ set₀ found₀ depth₀ from₀ used₀ k₀ room path set found depth from used k = Run n nodes count (toList n (den nodes root) begin base) base room₀ room path found depth from used k × Carries nodes path depth set
 
 abbrev μ-loop : tie.MeasureT-loop
-μ-loop nodes n count root begin room₀ base path₀ set₀ found₀ depth₀ wrote₀ used₀ k₀ room path set found depth wrote used k = length room₀ - used
+μ-loop nodes n count root begin room₀ base path₀ set₀ found₀ depth₀ from₀ used₀ k₀ room path set found depth from used k = length room₀ - used
 
 empty-requires : tie.Need-empty-requires Inv-loop μ-loop
 empty-requires c κs = search needs

@@ -4,14 +4,14 @@ use Rattle.sets.proofs.Words.{take-out}
 use Rattle.sets.proofs.remove.Statement.{statement}
 use Rattle.sets.proofs.remove.Tie as tie
 
+shl-b : tie.Need-shl-b
+shl-b c = search needs
+
 mul-ws : tie.Need-mul-ws
 mul-ws c = search needs
 
 slice-read-ws : tie.Need-slice-read-ws
 slice-read-ws c = search needs
-
-shl-ws : tie.Need-shl-ws
-shl-ws c = search needs
 
 mul-ws-2 : tie.Need-mul-ws-2
 mul-ws-2 c = search needs
@@ -27,4 +27,4 @@ returns c = take-out (c .before .args .ws .now) (c .before .args .i) (c .before 
 
 pub remove-spec : {M : Type 1} → statement M
 remove-spec =
-    tie.close (tie.spec mul-ws slice-read-ws shl-ws mul-ws-2 slice-write-ws same-length returns)
+    tie.close (tie.spec shl-b mul-ws slice-read-ws mul-ws-2 slice-write-ws same-length returns)
