@@ -16,9 +16,6 @@ pub const WORDS: usize = paper::EVENTS / 64;
 
 pub const MOST: usize = 64 * WORDS;
 
-// No cut has more bytes.
-pub const LONGEST: usize = 2 * MOST + 1;
-
 // The place of the lowest set bit of a word that is not 0.
 fn low_bit(w: u64) -> usize
     requires { ⌜ 0 < w ⌝ }
@@ -51,9 +48,9 @@ pub fn add(ws: &mut [u64], i: usize)
     requires { ⌜ i < room (now ws) ⌝ }
     ensures { λ _. ⌜ setOf (now (ws .exit)) ≡ put i true (setOf (now (ws .entry))) ⌝ }
 {
-    let b = 1u64 << (i % 64);
+    let new = 1u64 << (i % 64);
     let k = i / 64;
-    ws[k] = ws[k] | b;
+    ws[k] = ws[k] | new;
 }
 
 // Takes member `i` out.
@@ -61,9 +58,9 @@ pub fn remove(ws: &mut [u64], i: usize)
     requires { ⌜ (i < room (now ws)) × (setOf (now ws) i ≡ true) ⌝ }
     ensures { λ _. ⌜ setOf (now (ws .exit)) ≡ put i false (setOf (now (ws .entry))) ⌝ }
 {
-    let b = 1u64 << (i % 64);
+    let old = 1u64 << (i % 64);
     let k = i / 64;
-    ws[k] = ws[k] ^ b;
+    ws[k] = ws[k] ^ old;
 }
 
 // The lowest member in the words from `from` on, or the room where there is none.

@@ -4,8 +4,8 @@ use Rattle.sets.proofs.Words.{put-in}
 use Rattle.sets.proofs.add.Statement.{statement}
 use Rattle.sets.proofs.add.Tie as tie
 
-shl-b : tie.Need-shl-b
-shl-b c = search needs
+shl-new : tie.Need-shl-new
+shl-new c = search needs
 
 mul-ws : tie.Need-mul-ws
 mul-ws c = search needs
@@ -27,4 +27,4 @@ returns c = put-in (c .before .args .ws .now) (c .before .args .i) (c .before .p
 
 pub add-spec : {M : Type 1} → statement M
 add-spec =
-    tie.close (tie.spec shl-b mul-ws slice-read-ws mul-ws-2 slice-write-ws same-length returns)
+    tie.close (tie.spec shl-new mul-ws slice-read-ws mul-ws-2 slice-write-ws same-length returns)

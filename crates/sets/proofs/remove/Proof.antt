@@ -4,8 +4,8 @@ use Rattle.sets.proofs.Words.{take-out}
 use Rattle.sets.proofs.remove.Statement.{statement}
 use Rattle.sets.proofs.remove.Tie as tie
 
-shl-b : tie.Need-shl-b
-shl-b c = search needs
+shl-old : tie.Need-shl-old
+shl-old c = search needs
 
 mul-ws : tie.Need-mul-ws
 mul-ws c = search needs
@@ -27,4 +27,4 @@ returns c = take-out (c .before .args .ws .now) (c .before .args .i) (c .before 
 
 pub remove-spec : {M : Type 1} → statement M
 remove-spec =
-    tie.close (tie.spec shl-b mul-ws slice-read-ws mul-ws-2 slice-write-ws same-length returns)
+    tie.close (tie.spec shl-old mul-ws slice-read-ws mul-ws-2 slice-write-ws same-length returns)
