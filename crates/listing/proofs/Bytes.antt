@@ -1,19 +1,15 @@
 -- The bytes of a path's cut, placed in a room and read back.
 -- Assumes nothing.
 use mathlib.Core.Path.{_≡_, refl, sym, ap, ap₂, _∙_, subst}
-use mathlib.Core.Bool.{Bool, true, false}
-use mathlib.Core.List.{List, [], _∷_, _++_, map, append-assoc, append-nil}
+use mathlib.Core.Bool.{true, false}
+use mathlib.Core.List.{List, [], _∷_, _++_, append-assoc, append-nil}
 use Prim.Native.Nat.{ℕ, zero, suc, _+_, _-_, _*_, _≤_, _<_}
 use native.Mathlib.Decide.{ℕ-discrete}
 use native.Mathlib.Nat.{le-of-eq}
-use native.Mathlib.Numerals.{add-one}
 use native.Mathlib.Omega.{arith}
-use lib.Dec.{leb}
 use lib.ListN.{length, getD, take, drop, set, replicate, length-append, length-map, length-drop, length-take, drop-of-length-le}
-use lib.Seq.{take-suc, take-all, set-at, drop-cons, drop-drop, length-take-le, getD-append-add}
+use lib.Seq.{take-all, drop-drop, getD-append-add}
 use borrow.Rule.Slice.PartMut.{putMid, midOf, postOf, put-same}
-use borrow.Author.Tests.{leb-true, leb-false}
-use Rattle.paper.specs.Limits.{limits}
 use Rattle.paper.specs.Lists.{keep, upTo}
 use Rattle.paper.specs.Sets.{Set, put, members}
 use Rattle.paper.specs.Listing.{memberBytes, cutBytes, setBytes}
@@ -24,7 +20,6 @@ use Rattle.sets.specs.Bytes.{Laid}
 use Rattle.sets.proofs.Count.{cut-length}
 use Rattle.sets.proofs.Bytes.{keep-agree}
 use Rattle.tables.specs.Table.{eventOf}
-use Rattle.tables.specs.Flags.{Says}
 use Rattle.listing.specs.Paths.{ofEvents, eventsOf, along, Climbs, Open}
 use Rattle.listing.specs.Bytes.{Placed, picked}
 use Rattle.listing.proofs.Paths.{climbs-weak, climbs-length, path-length}

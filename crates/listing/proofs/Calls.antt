@@ -3,16 +3,15 @@
 use mathlib.Core.Path.{_≡_, refl, sym, ap, ap₂, _∙_, subst}
 use mathlib.Core.Bool.{Bool, true, false, false≢true}
 use mathlib.Core.List.{List, [], _∷_, _++_, append-assoc, append-nil}
-use Prim.Native.Nat.{ℕ, zero, suc, _+_, _-_, _*_, _/_, _≤_, _<_}
+use Prim.Native.Nat.{ℕ, zero, suc, _+_, _-_, _/_, _≤_, _<_}
 use native.Mathlib.Omega.{arith}
 use lib.ListN.{length, take, drop, length-append, length-drop}
-use lib.Seq.{take-at, drop-drop, drop-append-add, length-take-le}
+use lib.Seq.{length-take-le}
 use Rattle.paper.specs.Limits.{limits}
 use Rattle.paper.specs.Lists.{lastOr}
 use Rattle.paper.specs.Sets.{Set, none}
 use Rattle.paper.specs.Listing.{memberBytes, cutBytes, setBytes, setsBytes}
 use Rattle.sets.specs.Words.{setOf}
-use Rattle.sets.proofs.Count.{members-length}
 use Rattle.sets.proofs.Bytes.{joined}
 use Rattle.tables.specs.Lent.{Lent}
 use Rattle.listing.specs.Paths.{ofEvents, eventsOf, along, around, Open, leftOf, Reached}

@@ -1,24 +1,22 @@
 -- The set of a path in words, one node longer or shorter; and its bytes.
 -- Assumes nothing.
 use mathlib.Core.Path.{_≡_, refl, sym, ap, ap₂, _∙_, subst, fun-ext}
-use mathlib.Core.Bool.{Bool, true, false, cond}
-use mathlib.Core.List.{List, [], _∷_, _++_, map}
-use Prim.Native.Nat.{ℕ, zero, suc, _+_, _-_, _*_, _≤_, _<_}
+use mathlib.Core.Bool.{true, false}
+use mathlib.Core.List.{List, [], _∷_, _++_}
+use Prim.Native.Nat.{ℕ, suc, _+_, _-_, _≤_, _<_}
 use native.Mathlib.Decide.{ℕ-discrete}
 use native.Mathlib.Numerals.{add-one}
 use native.Mathlib.Omega.{arith}
 use lib.ListN.{length, getD, take, set, replicate}
 use lib.Seq.{take-suc-set}
 use borrow.Author.Tests.{eq-eqb, ne-eqb}
-use Rattle.paper.specs.Limits.{limits}
-use Rattle.paper.specs.Sets.{Set, none, put}
+use Rattle.paper.specs.Sets.{Set, put}
 use Rattle.paper.specs.Listing.{setBytes}
 use Rattle.algebra.proofs.Base.{put-same, put-other}
 use Rattle.sets.specs.Words.{words, setOf, room}
 use Rattle.sets.proofs.Words.{empty-none}
 use Rattle.tables.specs.Table.{eventOf}
-use Rattle.tables.proofs.Lent.{lent-node}
-use Rattle.listing.specs.Paths.{ofEvents, eventsOf, along, Climbs, Open, Carries}
+use Rattle.listing.specs.Paths.{ofEvents, along, Climbs, Open, Carries}
 use Rattle.listing.specs.Bytes.{Placed}
 use Rattle.listing.proofs.Paths.{climbs-length, room-for, here, shorter, top}
 use Rattle.listing.proofs.Bytes.{path-bytes}

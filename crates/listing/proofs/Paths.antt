@@ -197,10 +197,6 @@ module _ {n : ℕ} {T : List ℕ} {c : ℕ} {P : List ℕ} {d at : ℕ} (o : Ope
       let e : i ≡ getD (take d P) k 0 = q ∙ sym (getD-take d P k 0 h) in
       fits i (omega arith) (omega arith)
 
-  -- the event of an entry, as the code reads it
-  pub entry : (k : ℕ) {i e : ℕ} → k < d → i ≡ getD P k 0 → e ≡ eventOf T i → e ≡ eventOf T (getD (take d P) k 0)
-  entry k h q r = r ∙ ap (eventOf T) (q ∙ sym (getD-take d P k 0 h))
-
   -- words that hold every event hold those of the diagram
   pub wide-enough : (ws : List ℕ) → length ws ≡ words → n ≤ room ws
   wide-enough ws q = let f = o .lent .few-events in omega arith

@@ -1,4 +1,4 @@
-// Lists the cuts of a cut diagram in order, as many as fit into a room, going on from the path of the last one.
+// Lists the cuts of a cut diagram in order, as many as fit into a room: each from its set, the next from the path of the last.
 ghost use mathlib.Core.Path.{_≡_};
 ghost use mathlib.Core.Bool.{true};
 ghost use Prim.Native.Nat.{_+_, _-_, _*_, _/_, _≤_, _<_};

@@ -142,20 +142,18 @@ fn seek(
     let mut d = 0;
     while 2 <= at {
         let e = tables::event_of(nodes, at);
-        let f = tables::failed_of(nodes, at);
-        let b = tables::sound_of(nodes, at);
         let x = sets::lowest(s, i);
         if x < e {
             return Spot { node: at, depth: d };
         }
         i = e + 1;
         if e < x {
-            at = b;
+            at = tables::sound_of(nodes, at);
         } else {
             path[d] = at as u32;
             d += 1;
             sets::add(set, e);
-            at = f;
+            at = tables::failed_of(nodes, at);
         }
     }
     if at == 1 {

@@ -1,9 +1,9 @@
 -- The bytes of a set, word by word: each lowest member in turn.
 -- Assumes nothing.
-use mathlib.Core.Path.{_≡_, refl, sym, ap, ap₂, _∙_, subst}
+use mathlib.Core.Path.{_≡_, refl, sym, ap, ap₂, _∙_}
 use mathlib.Core.Bool.{Bool, true, false, cond}
 use mathlib.Core.List.{List, [], _∷_, _++_, append-assoc, append-nil}
-use Prim.Native.Nat.{ℕ, zero, suc, _+_, _-_, _*_, _/_, _%_, _^_, _≤_, _<_}
+use Prim.Native.Nat.{ℕ, zero, suc, _+_, _-_, _*_, _≤_, _<_}
 use native.Mathlib.Nat.{zero-add}
 use native.Mathlib.Decide.{ℕ-discrete}
 use native.Mathlib.Numerals.{add-one}
@@ -15,9 +15,9 @@ use lib.Bits.{bitAnd}
 use borrow.Author.Tests.{eq-eqb, ne-eqb}
 use Rattle.paper.specs.Lists.{keep, upTo}
 use Rattle.paper.specs.Sets.{Set, put, members}
-use Rattle.paper.specs.Listing.{memberBytes, cutBytes, setBytes}
+use Rattle.paper.specs.Listing.{memberBytes, cutBytes}
 use Rattle.sets.specs.Words.{bit, setOf, room, Trail}
-use Rattle.sets.specs.Bytes.{wordSet, inWord, InByte, OneByte, Laid}
+use Rattle.sets.specs.Bytes.{wordSet, inWord, Laid}
 use Rattle.sets.proofs.Bit.{bit-none, drop-own, drop-other}
 use Rattle.sets.proofs.Words.{set-in}
 use Rattle.sets.proofs.Count.{keep-add, members-length, cut-length}

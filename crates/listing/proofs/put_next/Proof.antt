@@ -1,7 +1,5 @@
 -- `listing::put_next` meets its contract. Assumes nothing.
 use borrow.Author.Needs.{needs}
-use Prim.Native.Nat.{_*_}
-use lib.ListN.{length}
 use Rattle.paper.specs.Listing.{setBytes}
 use Rattle.sets.specs.Words.{setOf, room}
 use Rattle.listing.proofs.Bytes.{place}

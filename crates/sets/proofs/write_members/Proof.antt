@@ -1,6 +1,5 @@
 -- `sets::write_members` meets its contract. Assumes nothing.
 use native.Mathlib.Omega.{arith}
-use mathlib.Core.Path.{_≡_, _∙_}
 use Prim.Native.Nat.{_-_}
 use lib.ListN.{length}
 use Rattle.sets.proofs.Bytes.{Spelling, spell-start, spell-long, spell-room, spell-more, spell-full, spell-end}

@@ -1,5 +1,4 @@
 -- `sets::write_word` meets its contract. Assumes nothing.
-use borrow.Author.Needs.{needs}
 use native.Mathlib.Omega.{arith}
 use lib.ListN.{length, length-set}
 use Rattle.sets.specs.Bytes.{inWord}

@@ -1,7 +1,7 @@
 -- `listing::walk::seek` meets its contract. Assumes nothing.
 use borrow.Author.Needs.{needs}
 use native.Mathlib.Omega.{arith}
-use mathlib.Core.Path.{_≡_, refl, sym, _∙_}
+use mathlib.Core.Path.{_≡_, refl}
 use lib.ListN.{length, length-set}
 use Rattle.paper.specs.Order.{rest}
 use Rattle.paper.specs.Cuts.{setsOf}
@@ -26,50 +26,50 @@ loop-holds c = (walk-start (setOf (c .before .before .before .args .s .now)) (c 
 event-of-requires : tie.Need-event-of-requires Inv-loop μ-loop
 event-of-requires c κs = let f = fits-at (c .before .loop .inv .0 .path) (c .loop-test .taken) in (f .two, f .inside)
 
-failed-of-requires : tie.Need-failed-of-requires Inv-loop μ-loop
-failed-of-requires c κs = let f = fits-at (c .before .before .loop .inv .0 .path) (c .before .loop-test .taken) in (f .two, f .inside)
-
-sound-of-requires : tie.Need-sound-of-requires Inv-loop μ-loop
-sound-of-requires c κs = let f = fits-at (c .before .before .before .loop .inv .0 .path) (c .before .before .loop-test .taken) in (f .two, f .inside)
-
 lowest-requires : tie.Need-lowest-requires Inv-loop μ-loop
-lowest-requires c κs = omega (arith, c .before .before .before .before .before .before .before .before .pre .1)
+lowest-requires c κs = omega (arith, c .before .before .before .before .before .before .pre .1)
 
 same-length : tie.Need-same-length Inv-loop μ-loop
-same-length c = c .before .before .before .before .before .before .loop .inv .1
+same-length c = c .before .before .before .before .loop .inv .1
 
 returns : tie.Need-returns Inv-loop μ-loop
-returns c = ((turn (c .before .before .before .before .before .before .loop .inv .0) (wide-enough (c .before .before .before .before .before .before .loop .inv .0 .path) (c .before .before .before .before .before .before .before .before .before .before .args .s .now) (c .before .before .before .before .before .before .before .before .before .before .pre .1)) (c .before .lowest .ensures) (c .before .before .before .before .before .loop-test .taken) (c .before .before .before .before .event-of .ensures) (c .before .before .before .failed-of .ensures) (c .before .before .sound-of .ensures)) .stop (c .if1 .taken), c .before .before .before .before .before .before .loop .inv .2)
+returns c = ((turn (c .before .before .before .before .loop .inv .0) (wide-enough (c .before .before .before .before .loop .inv .0 .path) (c .before .before .before .before .before .before .before .before .args .s .now) (c .before .before .before .before .before .before .before .before .pre .1)) (c .before .lowest .ensures) (c .before .before .before .loop-test .taken) (c .before .before .event-of .ensures) refl refl) .stop (c .if1 .taken), c .before .before .before .before .loop .inv .2)
 
 add-i : tie.Need-add-i Inv-loop μ-loop
-add-i c = omega (arith, (turn (c .before .before .before .before .before .before .loop .inv .0) (wide-enough (c .before .before .before .before .before .before .loop .inv .0 .path) (c .before .before .before .before .before .before .before .before .before .before .args .s .now) (c .before .before .before .before .before .before .before .before .before .before .pre .1)) (c .before .lowest .ensures) (c .before .before .before .before .before .loop-test .taken) (c .before .before .before .before .event-of .ensures) (c .before .before .before .failed-of .ensures) (c .before .before .sound-of .ensures)) .event-low, c .before .before .before .before .before .before .loop .inv .0 .path .lent .few-events)
+add-i c = omega (arith, (turn (c .before .before .before .before .loop .inv .0) (wide-enough (c .before .before .before .before .loop .inv .0 .path) (c .before .before .before .before .before .before .before .before .args .s .now) (c .before .before .before .before .before .before .before .before .pre .1)) (c .before .lowest .ensures) (c .before .before .before .loop-test .taken) (c .before .before .event-of .ensures) refl refl) .event-low, c .before .before .before .before .loop .inv .0 .path .lent .few-events)
+
+sound-of-requires : tie.Need-sound-of-requires Inv-loop μ-loop
+sound-of-requires c κs = let f = fits-at (c .before .before .before .before .before .loop .inv .0 .path) (c .before .before .before .before .loop-test .taken) in (f .two, f .inside)
 
 loop-less : tie.Need-loop-less Inv-loop μ-loop
-loop-less c = (turn (c .before .before .before .before .before .before .before .loop .inv .0) (wide-enough (c .before .before .before .before .before .before .before .loop .inv .0 .path) (c .before .before .before .before .before .before .before .before .before .before .before .args .s .now) (c .before .before .before .before .before .before .before .before .before .before .before .pre .1)) (c .before .before .lowest .ensures) (c .before .before .before .before .before .before .loop-test .taken) (c .before .before .before .before .before .event-of .ensures) (c .before .before .before .before .failed-of .ensures) (c .before .before .before .sound-of .ensures)) .sound-less
+loop-less c = (turn (c .before .before .before .before .before .before .loop .inv .0) (wide-enough (c .before .before .before .before .before .before .loop .inv .0 .path) (c .before .before .before .before .before .before .before .before .before .before .args .s .now) (c .before .before .before .before .before .before .before .before .before .before .pre .1)) (c .before .before .before .lowest .ensures) (c .before .before .before .before .before .loop-test .taken) (c .before .before .before .before .event-of .ensures) refl (c .sound-of .ensures)) .sound-less
 
 loop-again : tie.Need-loop-again Inv-loop μ-loop
-loop-again c = ((turn (c .before .before .before .before .before .before .before .loop .inv .0) (wide-enough (c .before .before .before .before .before .before .before .loop .inv .0 .path) (c .before .before .before .before .before .before .before .before .before .before .before .args .s .now) (c .before .before .before .before .before .before .before .before .before .before .before .pre .1)) (c .before .before .lowest .ensures) (c .before .before .before .before .before .before .loop-test .taken) (c .before .before .before .before .before .event-of .ensures) (c .before .before .before .before .failed-of .ensures) (c .before .before .before .sound-of .ensures)) .sound (c .if2 .taken), c .before .before .before .before .before .before .before .loop .inv .1, c .before .before .before .before .before .before .before .loop .inv .2)
+loop-again c = ((turn (c .before .before .before .before .before .before .loop .inv .0) (wide-enough (c .before .before .before .before .before .before .loop .inv .0 .path) (c .before .before .before .before .before .before .before .before .before .before .args .s .now) (c .before .before .before .before .before .before .before .before .before .before .pre .1)) (c .before .before .before .lowest .ensures) (c .before .before .before .before .before .loop-test .taken) (c .before .before .before .before .event-of .ensures) refl (c .sound-of .ensures)) .sound (c .before .if2 .taken), c .before .before .before .before .before .before .loop .inv .1, c .before .before .before .before .before .before .loop .inv .2)
 
 cast-path : tie.Need-cast-path Inv-loop μ-loop
-cast-path c = omega (arith, fits-at (c .before .before .before .before .before .before .before .loop .inv .0 .path) (c .before .before .before .before .before .before .loop-test .taken) .small)
+cast-path c = omega (arith, fits-at (c .before .before .before .before .before .loop .inv .0 .path) (c .before .before .before .before .loop-test .taken) .small)
 
 mul-path : tie.Need-mul-path Inv-loop μ-loop
 mul-path c = search needs
 
 slice-write-path : tie.Need-slice-write-path Inv-loop μ-loop
-slice-write-path c = room-for (c .before .before .before .before .before .before .before .loop .inv .0 .path) (c .before .before .before .before .before .before .loop-test .taken)
+slice-write-path c = room-for (c .before .before .before .before .before .loop .inv .0 .path) (c .before .before .before .before .loop-test .taken)
 
 add-d : tie.Need-add-d Inv-loop μ-loop
-add-d c = omega (arith, room-for (c .before .before .before .before .before .before .before .loop .inv .0 .path) (c .before .before .before .before .before .before .loop-test .taken))
+add-d c = omega (arith, room-for (c .before .before .before .before .before .loop .inv .0 .path) (c .before .before .before .before .loop-test .taken))
 
 add-requires : tie.Need-add-requires Inv-loop μ-loop
-add-requires c κs = carries-room (c .before .before .before .before .before .before .before .before .loop .inv .0 .path) (c .before .before .before .before .before .before .before .before .loop .inv .2) (c .before .before .before .before .before .before .before .loop-test .taken) (c .before .before .before .before .before .before .event-of .ensures)
+add-requires c κs = carries-room (c .before .before .before .before .before .before .loop .inv .0 .path) (c .before .before .before .before .before .before .loop .inv .2) (c .before .before .before .before .before .loop-test .taken) (c .before .before .before .before .event-of .ensures)
+
+failed-of-requires : tie.Need-failed-of-requires Inv-loop μ-loop
+failed-of-requires c κs = let f = fits-at (c .before .before .before .before .before .before .before .loop .inv .0 .path) (c .before .before .before .before .before .before .loop-test .taken) in (f .two, f .inside)
 
 loop-less-2 : tie.Need-loop-less-2 Inv-loop μ-loop
-loop-less-2 c = (turn (c .before .before .before .before .before .before .before .before .before .loop .inv .0) (wide-enough (c .before .before .before .before .before .before .before .before .before .loop .inv .0 .path) (c .before .before .before .before .before .before .before .before .before .before .before .before .before .args .s .now) (c .before .before .before .before .before .before .before .before .before .before .before .before .before .pre .1)) (c .before .before .before .before .lowest .ensures) (c .before .before .before .before .before .before .before .before .loop-test .taken) (c .before .before .before .before .before .before .before .event-of .ensures) (c .before .before .before .before .before .before .failed-of .ensures) (c .before .before .before .before .before .sound-of .ensures)) .failed-less
+loop-less-2 c = (turn (c .before .before .before .before .before .before .before .before .loop .inv .0) (wide-enough (c .before .before .before .before .before .before .before .before .loop .inv .0 .path) (c .before .before .before .before .before .before .before .before .before .before .before .before .args .s .now) (c .before .before .before .before .before .before .before .before .before .before .before .before .pre .1)) (c .before .before .before .before .before .lowest .ensures) (c .before .before .before .before .before .before .before .loop-test .taken) (c .before .before .before .before .before .before .event-of .ensures) (c .failed-of .ensures) refl) .failed-less
 
 loop-again-2 : tie.Need-loop-again-2 Inv-loop μ-loop
-loop-again-2 c = ((turn (c .before .before .before .before .before .before .before .before .before .loop .inv .0) (wide-enough (c .before .before .before .before .before .before .before .before .before .loop .inv .0 .path) (c .before .before .before .before .before .before .before .before .before .before .before .before .before .args .s .now) (c .before .before .before .before .before .before .before .before .before .before .before .before .before .pre .1)) (c .before .before .before .before .lowest .ensures) (c .before .before .before .before .before .before .before .before .loop-test .taken) (c .before .before .before .before .before .before .before .event-of .ensures) (c .before .before .before .before .before .before .failed-of .ensures) (c .before .before .before .before .before .sound-of .ensures)) .failed (c .before .before .before .if1 .left) (c .before .before .if2 .left), simp length-set (c .before .before .before .before .before .before .before .before .before .loop .inv .1), carries-push (c .before .before .before .before .before .before .before .before .before .loop .inv .0 .path) (c .before .before .before .before .before .before .before .before .before .loop .inv .2) (c .before .before .before .before .before .before .before .before .loop-test .taken) (c .before .before .before .before .before .before .before .event-of .ensures) (c .add .kept .0) (c .add .ensures))
+loop-again-2 c = ((turn (c .before .before .before .before .before .before .before .before .loop .inv .0) (wide-enough (c .before .before .before .before .before .before .before .before .loop .inv .0 .path) (c .before .before .before .before .before .before .before .before .before .before .before .before .args .s .now) (c .before .before .before .before .before .before .before .before .before .before .before .before .pre .1)) (c .before .before .before .before .before .lowest .ensures) (c .before .before .before .before .before .before .before .loop-test .taken) (c .before .before .before .before .before .before .event-of .ensures) (c .failed-of .ensures) refl) .failed (c .before .before .before .before .if1 .left) (c .before .before .before .if2 .left), simp length-set (c .before .before .before .before .before .before .before .before .loop .inv .1), carries-push (c .before .before .before .before .before .before .before .before .loop .inv .0 .path) (c .before .before .before .before .before .before .before .before .loop .inv .2) (c .before .before .before .before .before .before .before .loop-test .taken) (c .before .before .before .before .before .before .event-of .ensures) (c .before .add .kept .0) (c .before .add .ensures))
 
 lowest-requires-2 : tie.Need-lowest-requires-2 Inv-loop μ-loop
 lowest-requires-2 c κs = omega (arith, c .before .before .before .before .before .before .pre .1)
@@ -106,12 +106,11 @@ seek-spec =
     μ-loop
     loop-holds
     event-of-requires
-    failed-of-requires
-    sound-of-requires
     lowest-requires
     same-length
     returns
     add-i
+    sound-of-requires
     loop-less
     loop-again
     cast-path
@@ -119,6 +118,7 @@ seek-spec =
     slice-write-path
     add-d
     add-requires
+    failed-of-requires
     loop-less-2
     loop-again-2
     lowest-requires-2
