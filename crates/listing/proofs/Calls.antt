@@ -3,16 +3,16 @@
 use mathlib.Core.Path.{_≡_, refl, sym, ap, ap₂, _∙_, subst}
 use mathlib.Core.Bool.{Bool, true, false, false≢true}
 use mathlib.Core.List.{List, [], _∷_, _++_, append-assoc, append-nil}
-use Prim.Native.Nat.{ℕ, zero, suc, _+_, _-_, _*_, _≤_, _<_}
+use Prim.Native.Nat.{ℕ, zero, suc, _+_, _-_, _/_, _≤_, _<_}
 use native.Mathlib.Omega.{arith}
 use lib.ListN.{length, take, drop, length-append, length-drop}
-use lib.Seq.{take-at, drop-drop, drop-append-add, length-take-le}
+use lib.Seq.{length-take-le}
 use Rattle.paper.specs.Limits.{limits}
 use Rattle.paper.specs.Lists.{lastOr}
 use Rattle.paper.specs.Sets.{Set, none}
 use Rattle.paper.specs.Listing.{memberBytes, cutBytes, setBytes, setsBytes}
 use Rattle.sets.specs.Words.{setOf}
-use Rattle.sets.proofs.Count.{members-length}
+use Rattle.sets.proofs.Bytes.{joined}
 use Rattle.tables.specs.Lent.{Lent}
 use Rattle.listing.specs.Paths.{ofEvents, eventsOf, along, around, Open, leftOf, Reached}
 use Rattle.listing.specs.Bytes.{Placed, picked}
@@ -50,23 +50,10 @@ len-zero : (l : List Set) → length l ≡ 0 → l ≡ []
 len-zero [] e = refl
 len-zero (S ∷ l) e = absurd (omega arith)
 
--- the room after one cut more
-joined : (room w cut room₀ : List ℕ) (used n : ℕ) → length w ≡ used → room ≡ w ++ drop used room₀ → take used room ++ (cut ++ drop (used + n) room) ≡ (w ++ cut) ++ drop (used + n) room₀
-joined room w cut room₀ used n e b =
-    let front : take used room ≡ w = ap (take used) b ∙ take-at w (drop used room₀) used e in
-    let back : drop (used + n) room ≡ drop (used + n) room₀ =
-    ap₂ (λ (k : ℕ) (x : List ℕ). drop (k + n) x) (sym e) b ∙ drop-append-add w (drop used room₀) n ∙ drop-drop n used room₀ in
-    ap₂ (λ (x y : List ℕ). x ++ (cut ++ y)) front back ∙ sym (append-assoc w cut (drop (used + n) room₀))
-
 -- ---- the loop
 
--- the members of S, m of them, stand in the bytes from `from` on
-pub record Last (R : List ℕ) (from m : ℕ) (S : Set) : Type 0 where
-  pub inside : from + 2 * m ≤ length R
-  pub is : ofEvents (picked R from m) ≡ S
-
--- where the loop is: the cuts written and those left, the first of which is the path's
-pub record Run (n : ℕ) (T : List ℕ) (c : ℕ) (l : List Set) (base room₀ room P : List ℕ) (found : Bool) (d from size used k : ℕ) : Type 0 where
+-- where the loop is: the cuts written, the last of them in the bytes from `from` on, and those left, the first of which is the path's
+pub record Run (n : ℕ) (T : List ℕ) (c : ℕ) (l : List Set) (base room₀ room P : List ℕ) (found : Bool) (d from used k : ℕ) : Type 0 where
   pub written : List Set
   pub left : List Set
   pub path : Open n T c P d 1
@@ -78,9 +65,11 @@ pub record Run (n : ℕ) (T : List ℕ) (c : ℕ) (l : List Set) (base room₀ r
   pub bytes-used : used ≡ length (setsBytes n written)
   pub bytes : room ≡ setsBytes n written ++ drop used room₀
   pub within : used ≤ length room₀
-  pub last : 0 < k → Last room from size (lastOr (setOf base) written)
+  pub from-le : from ≤ used
+  pub none : k ≡ 0 → used ≤ from
+  pub last : 0 < k → (from < used) × (ofEvents (picked room from ((used - from) / 2)) ≡ lastOr (setOf base) written)
 
-pub run-start : {n : ℕ} {T : List ℕ} {c : ℕ} {l : List Set} {P : List ℕ} {found : Bool} {d : ℕ} (base room₀ : List ℕ) → Reached n T c P found d l → length P ≡ limits .events → Run n T c l base room₀ room₀ P found d 0 0 0 0
+pub run-start : {n : ℕ} {T : List ℕ} {c : ℕ} {l : List Set} {P : List ℕ} {found : Bool} {d : ℕ} (base room₀ : List ℕ) → Reached n T c P found d l → length P ≡ limits .events → Run n T c l base room₀ room₀ P found d 0 0 0
 run-start {l = l} base room₀ r q = record {
   written = [];
   left = l;
@@ -93,26 +82,28 @@ run-start {l = l} base room₀ r q = record {
   bytes-used = refl;
   bytes = refl;
   within = omega arith;
+  from-le = omega arith;
+  none = λ h. omega arith;
   last = λ h. absurd (omega arith);
 }
 
-module _ {n : ℕ} {T : List ℕ} {c : ℕ} {l : List Set} {base room₀ room P : List ℕ} {found : Bool} {d from size used k : ℕ} (r : Run n T c l base room₀ room P found d from size used k) where
+module _ {n : ℕ} {T : List ℕ} {c : ℕ} {l : List Set} {base room₀ room P : List ℕ} {found : Bool} {d from used k : ℕ} (r : Run n T c l base room₀ room P found d from used k) where
   pub run-long : length room ≡ length room₀
   run-long = let h = r .within in let u = r .bytes-used in ap length (r .bytes) ∙ simp (length-append, length-drop) (omega arith)
 
-  pub run-inside : 0 < k → from + 2 * size ≤ length room
-  run-inside h = r .last h .inside
+  pub run-inside : (from ≤ used) × (used ≤ length room)
+  run-inside = (r .from-le, let l = run-long in let h = r .within in omega arith)
 
   -- the last set, as it was read back
-  run-last : (last : List ℕ) → (k ≡ 0 → last ≡ base) → (0 < k → setOf last ≡ ofEvents (picked room from size)) → setOf last ≡ lastOr (setOf base) (r .written)
+  run-last : (last : List ℕ) → (used ≤ from → last ≡ base) → (from < used → setOf last ≡ ofEvents (picked room from ((used - from) / 2))) → setOf last ≡ lastOr (setOf base) (r .written)
   run-last last z s = go k refl
     where
-      go : (m : ℕ) → k ≡ m → setOf last ≡ lastOr (setOf base) (r .written)
-      go zero e = ap setOf (z e) ∙ ap (lastOr (setOf base)) (sym (len-zero (r .written) (sym (r .count) ∙ e)))
-      go (suc m) e = let h : 0 < k = omega arith in s h ∙ r .last h .is
+      go : (j : ℕ) → k ≡ j → setOf last ≡ lastOr (setOf base) (r .written)
+      go zero e = ap setOf (z (r .none e)) ∙ ap (lastOr (setOf base)) (sym (len-zero (r .written) (sym (r .count) ∙ e)))
+      go (suc j) e = let h = r .last (omega arith) in s (h .0) ∙ h .1
 
   -- the loop ends: no cut is left
-  pub run-end : {last : List ℕ} {a k′ used′ : ℕ} {last′ : List ℕ} {fin : Bool} → found ≡ false → (k ≡ 0 → last ≡ base) × (0 < k → setOf last ≡ ofEvents (picked room from size))
+  pub run-end : {last : List ℕ} {a k′ used′ : ℕ} {last′ : List ℕ} {fin : Bool} → found ≡ false → (used ≤ from → last ≡ base) × (from < used → setOf last ≡ ofEvents (picked room from ((used - from) / 2)))
       → (a ≡ 0) × (k′ ≡ k) × (used′ ≡ used) × (last′ ≡ last) × (fin ≡ true) → Listing n l (setOf base) room₀ room a k′ used′ last′ fin
   run-end {last} e q y =
       let z : r .left ≡ [] = r .left-is ∙ ap (λ (f : Bool). leftOf f T P d) e in
@@ -138,18 +129,18 @@ module _ {n : ℕ} {T : List ℕ} {c : ℕ} {l : List Set} {base room₀ room P 
     next = r .left-is ∙ ap (λ (f : Bool). leftOf f T P d) is ∙ around-one T (take d P) []
 
     -- the next cut does not fit
-    module _ {w : ℕ} {room′ : List ℕ} (z : w ≡ 0) (pl : Placed n room used (along T (take d P)) w room′) where
-      pub short-inside : 0 < k → from + 2 * size ≤ length room′
-      short-inside h = subst (λ (x : List ℕ). from + 2 * size ≤ length x) (sym (pl .short z .1)) (run-inside h)
+    module _ {w : ℕ} {room′ : List ℕ} (z : w ≡ 0) (pl : Placed room used (setBytes n (along T (take d P))) w room′) where
+      pub short-inside : (from ≤ used) × (used ≤ length room′)
+      short-inside = subst (λ (x : List ℕ). (from ≤ used) × (used ≤ length x)) (sym (pl .short z .1)) run-inside
 
-      pub run-short : {last : List ℕ} {a k′ used′ : ℕ} {last′ : List ℕ} {fin : Bool} → (k ≡ 0 → last ≡ base) × (0 < k → setOf last ≡ ofEvents (picked room′ from size))
+      pub run-short : {last : List ℕ} {a k′ used′ : ℕ} {last′ : List ℕ} {fin : Bool} → (used ≤ from → last ≡ base) × (from < used → setOf last ≡ ofEvents (picked room′ from ((used - from) / 2)))
           → Stopped k used last a k′ used′ last′ fin → Listing n l (setOf base) room₀ room′ a k′ used′ last′ fin
       run-short {last} {a} {k′} {used′} {last′} {fin} q st = judge k refl
         where
           long : length room < used + length (setBytes n (along T (take d P)))
           long = pl .short z .0
 
-          judge : (m : ℕ) → k ≡ m → Listing n l (setOf base) room₀ room′ a k′ used′ last′ fin
+          judge : (j : ℕ) → k ≡ j → Listing n l (setOf base) room₀ room′ a k′ used′ last′ fin
           judge zero e =
               let f = st .none-yet e in
               let none-written : r .written ≡ [] = len-zero (r .written) (sym (r .count) ∙ e) in
@@ -165,7 +156,7 @@ module _ {n : ℕ} {T : List ℕ} {c : ℕ} {l : List Set} {base room₀ room P 
                 unfinished = f .unfinished;
                 kept = pl .short z .1 ∙ r .bytes ∙ ap₂ (λ (p : List Set) (j : ℕ). setsBytes n p ++ drop j room₀) none-written no-byte;
               })
-          judge (suc m) e =
+          judge (suc j) e =
               let h : 0 < k = omega arith in
               let y = st .some-yet h in
               let u = r .bytes-used in
@@ -185,24 +176,25 @@ module _ {n : ℕ} {T : List ℕ} {c : ℕ} {l : List Set} {base room₀ room P 
                 cuts = y .1 ∙ r .count;
                 long = y .2 ∙ r .bytes-used;
                 bytes = pl .short z .1 ∙ r .bytes ∙ ap (λ (j : ℕ). setsBytes n (r .written) ++ drop j room₀) (sym (y .2));
-                last-set = ap setOf (y .3) ∙ run-last last (q .0) (λ h. q .1 h ∙ ap (λ (x : List ℕ). ofEvents (picked x from size)) (pl .short z .1));
+                last-set = ap setOf (y .3) ∙ run-last last (q .0) (λ h. q .1 h ∙ ap (λ (x : List ℕ). ofEvents (picked x from ((used - from) / 2))) (pl .short z .1));
                 end = (λ t. absurd (false≢true (sym (y .4) ∙ t)), λ x. absurd (nil-cons (sym x ∙ next)));
               })
 
     -- it was written
-    module _ {w : ℕ} {room′ : List ℕ} (z : 0 < w) (pl : Placed n room used (along T (take d P)) w room′) where
+    module _ {w : ℕ} {room′ : List ℕ} (z : 0 < w) (pl : Placed room used (setBytes n (along T (take d P))) w room′) where
       pub run-fits : used + w ≤ length room₀
       run-fits = let p = pl .placed z .1 in let l = run-long in omega arith
 
       pub run-less : length room₀ - (used + w) < length room₀ - used
       run-less = let p = run-fits in omega arith
 
-      stands : Last room′ used d (along T (take d P))
+      -- the last cut's bytes are read as its events
+      stands : ofEvents (picked room′ used ((used + w - used) / 2)) ≡ along T (take d P)
       unfolding cutBytes
       stands =
           let p = pl .placed z in
+          let w-is = p .0 in
           let size = path-size (r .path) in
-          let fit = p .1 in
           let long = run-long in
           let wi = r .within in
           let t = eventsOf T (take d P) in
@@ -211,16 +203,11 @@ module _ {n : ℕ} {T : List ℕ} {c : ℕ} {l : List Set} {base room₀ room P 
           p .2 ∙ ap (λ (x : List ℕ). take used room ++ (x ++ drop (used + w) room)) (path-bytes (r .path) n (omega arith))
           ∙ ap (λ (x : List ℕ). take used room ++ x) (append-assoc (memberBytes t) (0x22 ∷ []) (drop (used + w) room)) in
           let front : length (take used room) ≡ used = length-take-le used room (omega arith) in
-          let la : length room′ ≡ used + length (memberBytes t ++ back) = ap length is ∙ length-append (take used room) (memberBytes t ++ back) ∙ ap (λ (x : ℕ). x + length (memberBytes t ++ back)) front in
-          let lb = length-append (memberBytes t) back in
-          let lc : length (memberBytes t) ≡ 2 * d = members-length t ∙ ap (λ (x : ℕ). 2 * x) (events-length (r .path)) in
-          record {
-            inside = omega arith;
-            is = ap ofEvents (ap₂ (λ (R : List ℕ) (m : ℕ). picked R used m) is (sym (events-length (r .path))) ∙ picked-all (take used room) t back used front);
-          }
+          let many : (used + w - used) / 2 ≡ length t = let e = events-length (r .path) in omega arith in
+          ap ofEvents (ap (picked room′ used) many ∙ ap (λ (R : List ℕ). picked R used (length t)) is ∙ picked-all (take used room) t back used front)
 
       pub run-more : {P′ : List ℕ} {found′ : Bool} {d′ : ℕ} → Reached n T c P′ found′ d′ (around T (take d P) []) → length P′ ≡ limits .events
-          → Run n T c l base room₀ room′ P′ found′ d′ used d (used + w) (k + 1)
+          → Run n T c l base room₀ room′ P′ found′ d′ used (used + w) (k + 1)
       run-more re long′ =
           let p = pl .placed z in
           let S = along T (take d P) in
@@ -239,5 +226,7 @@ module _ {n : ℕ} {T : List ℕ} {c : ℕ} {l : List Set} {base room₀ room P 
             bytes-used = ap₂ _+_ (r .bytes-used) (p .0) ∙ sym (ap length (bytes-more n (r .written) S) ∙ length-append (setsBytes n (r .written)) (setBytes n S));
             bytes = p .2 ∙ joined room (setsBytes n (r .written)) (setBytes n S) room₀ used w used-is (r .bytes) ∙ ap (λ (x : List ℕ). x ++ drop (used + w) room₀) (sym (bytes-more n (r .written) S));
             within = run-fits;
-            last = λ _. subst (Last room′ used d) (sym (last-more (setOf base) (r .written) S)) stands;
+            from-le = omega arith;
+            none = λ h. absurd (omega arith);
+            last = λ _. (omega arith, stands ∙ sym (last-more (setOf base) (r .written) S));
           }

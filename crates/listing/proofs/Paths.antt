@@ -7,7 +7,7 @@ use Prim.Native.Nat.{ℕ, zero, suc, _+_, _-_, _*_, _≤_, _<_}
 use native.Mathlib.Numerals.{add-one}
 use native.Mathlib.Omega.{arith}
 use lib.ListN.{length, getD, set, take, length-set}
-use lib.Seq.{take-suc-set, length-take-le, getD-take}
+use lib.Seq.{take-suc, take-suc-set, length-take-le, getD-take}
 use Rattle.paper.specs.Limits.{limits, mostNumbers}
 use Rattle.paper.specs.Sets.{Set, none, put}
 use Rattle.paper.specs.Diagrams.{Ordered}
@@ -49,7 +49,7 @@ module _ (T : List ℕ) (c : ℕ) where
   climbs-snoc (j ∷ p) m i k w two l h = (w .0, w .1, w .2, climbs-snoc p (suc (eventOf T j)) i k (w .3) two l h)
 
   -- the last node of a path, and the path that leads to it
-  pub climbs-last : (p : List ℕ) (m i e : ℕ) → Climbs T c m (p ++ (i ∷ [])) e → Climbs T c m p (eventOf T i) × (2 ≤ i) × (i < c + 2) × (eventOf T i < e)
+  climbs-last : (p : List ℕ) (m i e : ℕ) → Climbs T c m (p ++ (i ∷ [])) e → Climbs T c m p (eventOf T i) × (2 ≤ i) × (i < c + 2) × (eventOf T i < e)
   climbs-last [] m i e w = (w .2, w .0, w .1, w .3)
   climbs-last (j ∷ p) m i e w = let r = climbs-last p (suc (eventOf T j)) i e (w .3) in ((w .0, w .1, w .2, r .0), r .1, r .2, r .3)
 
@@ -158,6 +158,18 @@ module _ {n : ℕ} {T : List ℕ} {c : ℕ} {P : List ℕ} {d at : ℕ} (o : Ope
     around-push x =
         ap (λ (k : ℕ). around T (take k (set P d at)) x) (add-one d) ∙ ap (λ (p : List ℕ). around T p x) (take-suc-set P d at room-for) ∙ around-snoc T (take d P) at x
 
+-- ---- the entry on top
+
+module _ {n : ℕ} {T : List ℕ} {c : ℕ} {P : List ℕ} {d at : ℕ} (o : Open n T c P d at) (some : 0 < d) {i : ℕ} (qi : i ≡ getD P (d - 1) 0) where
+  pub shorter : take d P ≡ take (d - 1) P ++ (i ∷ [])
+  shorter =
+      let e : d ≡ suc (d - 1) = omega arith in
+      let deep = o .deep in
+      ap (λ (k : ℕ). take k P) e ∙ take-suc P (d - 1) 0 (omega arith) ∙ ap (λ (x : ℕ). take (d - 1) P ++ (x ∷ [])) (sym qi)
+
+  pub top : Climbs T c 0 (take (d - 1) P) (eventOf T i) × (2 ≤ i) × (i < c + 2) × (eventOf T i < o .end)
+  top = climbs-last T c (take (d - 1) P) 0 i (o .end) (subst (λ (p : List ℕ). Climbs T c 0 p (o .end)) shorter (o .climbs))
+
 -- ---- the numbers that the code reads
 
 pub record Fits (n : ℕ) (T : List ℕ) (i : ℕ) : Type 0 where
@@ -184,10 +196,6 @@ module _ {n : ℕ} {T : List ℕ} {c : ℕ} {P : List ℕ} {d at : ℕ} (o : Ope
       let w = climbs-at T c (take d P) 0 (o .end) (o .climbs) k (omega arith) in
       let e : i ≡ getD (take d P) k 0 = q ∙ sym (getD-take d P k 0 h) in
       fits i (omega arith) (omega arith)
-
-  -- the event of an entry, as the code reads it
-  pub entry : (k : ℕ) {i e : ℕ} → k < d → i ≡ getD P k 0 → e ≡ eventOf T i → e ≡ eventOf T (getD (take d P) k 0)
-  entry k h q r = r ∙ ap (eventOf T) (q ∙ sym (getD-take d P k 0 h))
 
   -- words that hold every event hold those of the diagram
   pub wide-enough : (ws : List ℕ) → length ws ≡ words → n ≤ room ws

@@ -2,18 +2,17 @@
 -- Assumes nothing.
 use mathlib.Core.Path.{_≡_, refl, sym, ap, ap₂, _∙_, subst}
 use mathlib.Core.Bool.{Bool, true, false}
-use mathlib.Core.List.{List, [], _∷_, _++_}
-use Prim.Native.Nat.{ℕ, suc, _+_, _-_, _≤_, _<_}
+use mathlib.Core.List.{List, []}
+use Prim.Native.Nat.{ℕ, _+_, _-_, _≤_, _<_}
 use native.Mathlib.Omega.{arith}
 use lib.ListN.{getD, set, take}
-use lib.Seq.{take-suc}
 use Rattle.paper.specs.Sets.{Set}
 use Rattle.paper.specs.Cuts.{setsOf}
 use Rattle.tables.specs.Table.{eventOf, failedOf, soundOf, den}
 use Rattle.tables.specs.Lent.{Node}
 use Rattle.tables.proofs.Lent.{lent-node}
 use Rattle.listing.specs.Paths.{around, Climbs, Open, Spotted, Reached}
-use Rattle.listing.proofs.Paths.{around-snoc, around-none, climbs-last, rooted, sets-0, sets-1, sets-node, open-leaf, open-none, open-push, around-push, here}
+use Rattle.listing.proofs.Paths.{around-snoc, around-none, rooted, sets-0, sets-1, sets-node, open-leaf, open-none, open-push, around-push, here, shorter, top}
 
 -- ---- down
 
@@ -69,22 +68,16 @@ module _ {n : ℕ} {T : List ℕ} {c : ℕ} {P : List ℕ} {d : ℕ} {l : List S
 
   -- with the entry on top taken away, what its sound branch leads to is left besides
   module _ (some : 0 < d) {i b : ℕ} (qi : i ≡ getD P (d - 1) 0) (qb : b ≡ soundOf T i) where
-    shorter : take d P ≡ take (d - 1) P ++ (i ∷ [])
-    shorter =
-        let e : d ≡ suc (d - 1) = omega arith in
-        let deep = w .path .deep in
-        ap (λ (k : ℕ). take k P) e ∙ take-suc P (d - 1) 0 (omega arith) ∙ ap (λ (x : ℕ). take (d - 1) P ++ (x ∷ [])) (sym qi)
-
-    top : Climbs T c 0 (take (d - 1) P) (eventOf T i) × (2 ≤ i) × (i < c + 2) × (eventOf T i < w .path .end)
-    top = climbs-last T c (take (d - 1) P) 0 i (w .path .end) (subst (λ (p : List ℕ). Climbs T c 0 p (w .path .end)) shorter (w .path .climbs))
+    abbrev up : Climbs T c 0 (take (d - 1) P) (eventOf T i) × (2 ≤ i) × (i < c + 2) × (eventOf T i < w .path .end)
+    up = top (w .path) some qi
 
     up-open : Open n T c P (d - 1) b
     up-open =
-        let nd : Node n T i = lent-node (w .path .lent) (top .1) (top .2) in
-        let up : 2 ≤ soundOf T i → eventOf T i < eventOf T (soundOf T i) = nd .sound-above in
+        let nd : Node n T i = lent-node (w .path .lent) (up .1) (up .2) in
+        let rise : 2 ≤ soundOf T i → eventOf T i < eventOf T (soundOf T i) = nd .sound-above in
         let s = nd .sound in
-        let h = top .2 in
-        let t = top .3 in
+        let h = up .2 in
+        let t = up .3 in
         let deep = w .path .deep in
         let low = w .path .low in
         record {
@@ -92,14 +85,14 @@ module _ {n : ℕ} {T : List ℕ} {c : ℕ} {P : List ℕ} {d : ℕ} {l : List S
           long = w .path .long;
           deep = omega arith;
           end = eventOf T i;
-          climbs = top .0;
+          climbs = up .0;
           low = omega arith;
-          above = subst (λ (y : ℕ). 2 ≤ y → eventOf T i ≤ eventOf T y) (sym qb) (λ h. let r = up h in omega arith);
+          above = subst (λ (y : ℕ). 2 ≤ y → eventOf T i ≤ eventOf T y) (sym qb) (λ h. let r = rise h in omega arith);
         }
 
     step : l ≡ around T (take (d - 1) P) (setsOf (den T b))
     step =
-        w .is ∙ ap (λ (p : List ℕ). around T p []) shorter ∙ around-snoc T (take (d - 1) P) i []
+        w .is ∙ ap (λ (p : List ℕ). around T p []) (shorter (w .path) some qi) ∙ around-snoc T (take (d - 1) P) i []
         ∙ ap (λ (k : ℕ). around T (take (d - 1) P) (setsOf (den T k))) (sym qb)
 
     pub up-found : 0 < b → Spotted n T c P (d - 1) b l

@@ -4,13 +4,11 @@ use mathlib.Core.Path.{_≡_}
 use mathlib.Core.List.{List, [], _∷_, _++_}
 use Prim.Native.Nat.{ℕ, zero, suc, _+_, _≤_, _<_}
 use lib.ListN.{length, getD, take, drop}
-use Rattle.paper.specs.Sets.{Set}
-use Rattle.paper.specs.Listing.{setBytes}
 
--- the set S was written behind the first `used` bytes of a room, in r bytes, where it fits; r is 0 where it does not
-pub record Placed (n : ℕ) (room : List ℕ) (used : ℕ) (S : Set) (r : ℕ) (room′ : List ℕ) : Type 0 where
-  pub short : r ≡ 0 → (length room < used + length (setBytes n S)) × (room′ ≡ room)
-  pub placed : 0 < r → (r ≡ length (setBytes n S)) × (used + r ≤ length room) × (room′ ≡ take used room ++ (setBytes n S ++ drop (used + r) room))
+-- the bytes of a cut were written behind the first `used` bytes of a room, r of them, where they fit; r is 0 where they do not
+pub record Placed (room : List ℕ) (used : ℕ) (cut : List ℕ) (r : ℕ) (room′ : List ℕ) : Type 0 where
+  pub short : r ≡ 0 → (length room < used + length cut) × (room′ ≡ room)
+  pub placed : 0 < r → (r ≡ length cut) × (used + r ≤ length room) × (room′ ≡ take used room ++ (cut ++ drop (used + r) room))
 
 -- the events of k members whose bytes start at `from`
 unfoldable pub picked : List ℕ → ℕ → ℕ → List ℕ

@@ -7,6 +7,7 @@ use Prim.Native.Nat.{ℕ, suc, _+_, _≤_, _<_}
 use lib.ListN.{length, take}
 use Rattle.paper.specs.Sets.{Set, none, put}
 use Rattle.paper.specs.Cuts.{setsOf}
+use Rattle.sets.specs.Words.{words, setOf}
 use Rattle.tables.specs.Table.{eventOf, soundOf, den}
 use Rattle.tables.specs.Lent.{Lent}
 
@@ -41,6 +42,11 @@ pub record Open (n : ℕ) (T : List ℕ) (c : ℕ) (P : List ℕ) (d at : ℕ) :
   pub climbs : Climbs T c 0 (take d P) end
   pub low : end ≤ n
   pub above : 2 ≤ at → end ≤ eventOf T at
+
+-- words that go with a path: they hold the set of the first d numbers of P
+pub record Carries (T P : List ℕ) (d : ℕ) (ws : List ℕ) : Type 0 where
+  pub long : length ws ≡ words
+  pub is : setOf ws ≡ along T (take d P)
 
 -- a node to go down from: the sets l are those of the node and those left by the path; node 0 only where there is no path
 pub record Spotted (n : ℕ) (T : List ℕ) (c : ℕ) (P : List ℕ) (d at : ℕ) (l : List Set) : Type 0 where

@@ -1,15 +1,13 @@
-// Lists the cuts of a cut diagram in order, as many as fit into a room, going on from the path of the last one.
+// Lists the cuts of a cut diagram in order, as many as fit into a room: each from its set, the next from the path of the last.
 ghost use mathlib.Core.Path.{_≡_};
-ghost use mathlib.Core.List.{_++_};
 ghost use mathlib.Core.Bool.{true};
-ghost use Prim.Native.Nat.{_+_, _*_, _≤_, _<_};
-ghost use lib.ListN.{length, drop, take};
+ghost use Prim.Native.Nat.{_+_, _-_, _*_, _/_, _≤_, _<_};
+ghost use lib.ListN.{length};
 ghost use Rattle.paper.specs.Listing.{setBytes};
 ghost use Rattle.sets.specs.Words.{words, setOf};
 ghost use Rattle.tables.specs.Table.{den};
-ghost use Rattle.tables.specs.Flags.{Says};
 ghost use Rattle.tables.specs.Lent.{Lent};
-ghost use Rattle.listing.specs.Paths.{ofEvents, along, Open};
+ghost use Rattle.listing.specs.Paths.{ofEvents};
 ghost use Rattle.listing.specs.Bytes.{Placed, picked};
 ghost use Rattle.listing.specs.Answers.{toList, Answered};
 ghost use Rattle.listing.specs.Calls.{Refusal, Stopped, Listing};
@@ -19,73 +17,12 @@ pub mod walk; // walk.rt: from a cut to the next
 // A path has at most one node for each event.
 pub const DEPTH: usize = paper::EVENTS;
 
-// The set of a path: its nodes' events.
-fn set_of(nodes: &[u32], n: usize, count: usize, path: &[u32], depth: usize) -> [u64; sets::WORDS]
-    requires { ⌜ Open n (now nodes) count (now path) depth 1 ⌝ }
-    ensures { λ r. ⌜ (length r ≡ words) × (setOf r ≡ along (now (nodes .entry)) (take depth (now (path .entry)))) ⌝ }
-{
-    let mut out = sets::empty();
-    let mut k = depth;
-    while 0 < k {
-        k -= 1;
-        let e = tables::event_of(nodes, walk::wide(path[k]));
-        sets::add(&mut out, e);
-    }
-    out
-}
-
-// Whether the cut of a path fits into `left` bytes: its size tells its bytes, unless there is room for any cut.
-fn has_room(nodes: &[u32], n: usize, count: usize, path: &[u32], depth: usize, left: usize) -> bool
-    requires { ⌜ Open n (now nodes) count (now path) depth 1 ⌝ }
-    ensures { λ r. ⌜ Says r (length (setBytes n (along (now (nodes .entry)) (take depth (now (path .entry))))) ≤ left) ⌝ }
-{
-    if sets::LONGEST <= left {
-        return true;
-    }
-    let set = set_of(nodes, n, count, path, depth);
-    sets::cut_len(&set) <= left
-}
-
-// Writes the cut of a path at the front of the room that is left, which is long enough for it; the bytes behind it stay.
-fn write_cut(
-    nodes: &[u32],
-    n: usize,
-    count: usize,
-    path: &[u32],
-    depth: usize,
-    room: &mut [u8],
-) -> usize
-    requires { ⌜ (Open n (now nodes) count (now path) depth 1) × (length (setBytes n (along (now nodes) (take depth (now path)))) ≤ length (now room)) ⌝ }
-    ensures { λ r. ⌜ (r ≡ length (setBytes n (along (now (nodes .entry)) (take depth (now (path .entry)))))) × (now (room .exit) ≡ setBytes n (along (now (nodes .entry)) (take depth (now (path .entry)))) ++ drop r (now (room .entry))) ⌝ }
-{
-    let mut k = 0;
-    while k < depth {
-        let e = tables::event_of(nodes, walk::wide(path[k]));
-        room[2 * k] = 0x21;
-        room[2 * k + 1] = e as u8;
-        k += 1;
-    }
-    room[2 * k] = 0x22;
-    2 * k + 1
-}
-
 // Writes a cut behind the `used` bytes, if it fits there, and says how many bytes it took: 0 where it does not fit.
-fn put_next(
-    nodes: &[u32],
-    n: usize,
-    count: usize,
-    path: &[u32],
-    depth: usize,
-    room: &mut [u8],
-    used: usize,
-) -> usize
-    requires { ⌜ (Open n (now nodes) count (now path) depth 1) × (used ≤ length (now room)) ⌝ }
-    ensures { λ r. ⌜ Placed n (now (room .entry)) used (along (now (nodes .entry)) (take depth (now (path .entry)))) r (now (room .exit)) ⌝ }
+fn put_next(set: &[u64; sets::WORDS], room: &mut [u8], used: usize) -> usize
+    requires { ⌜ (length (now set) ≡ words) × (used ≤ length (now room)) ⌝ }
+    ensures { λ r. ⌜ Placed (now (room .entry)) used (setBytes (length (now (set .entry)) * 64) (setOf (now (set .entry)))) r (now (room .exit)) ⌝ }
 {
-    if !has_room(nodes, n, count, path, depth, room.len() - used) {
-        return 0;
-    }
-    write_cut(nodes, n, count, path, depth, &mut room[used..])
+    sets::write_cut(set, &mut room[used..])
 }
 
 fn small(x: u8) -> usize
@@ -109,21 +46,15 @@ fn read_back(room: &[u8], from: usize, size: usize) -> [u64; sets::WORDS]
     out
 }
 
-// The last set after `k` cuts: that of the last cut's bytes, or the one that the call started after.
-fn last_set(
-    room: &[u8],
-    k: usize,
-    from: usize,
-    size: usize,
-    base: [u64; sets::WORDS],
-) -> [u64; sets::WORDS]
-    requires { ⌜ (0 < k → from + 2 * size ≤ length (now room)) ⌝ }
-    ensures { λ r. ⌜ (k ≡ 0 → r ≡ base) × (0 < k → setOf r ≡ ofEvents (picked (now (room .entry)) from size)) ⌝ }
+// The last set: that of the last cut, whose bytes run from `from` to `used`; the one that the call started after where there are none.
+fn last_set(room: &[u8], from: usize, used: usize, base: [u64; sets::WORDS]) -> [u64; sets::WORDS]
+    requires { ⌜ (from ≤ used) × (used ≤ length (now room)) ⌝ }
+    ensures { λ r. ⌜ (used ≤ from → r ≡ base) × (from < used → setOf r ≡ ofEvents (picked (now (room .entry)) from ((used - from) / 2))) ⌝ }
 {
-    if k == 0 {
+    if from == used {
         return base;
     }
-    read_back(room, from, size)
+    read_back(room, from, (used - from) / 2)
 }
 
 // What a listing call answers: its number, the cuts written, the bytes used, the last set, and whether no cut follows it.
@@ -185,28 +116,27 @@ fn list_cuts(
     ensures { λ r. ⌜ Listing n (toList n (den (now (nodes .entry)) root) begin base) (setOf base) (now (room .entry)) (now (room .exit)) (r .number) (r .count) (r .used) (r .last) (r .finished) ⌝ }
 {
     let mut path = [0u32; DEPTH];
-    let first = walk::start(nodes, n, count, root, begin, &base, &mut path);
+    let mut set = sets::empty();
+    let first = walk::start(nodes, n, count, root, begin, &base, &mut path, &mut set);
     let mut found = first.found;
     let mut depth = first.depth;
     let mut from = 0;
-    let mut size = 0;
     let mut used = 0;
     let mut k = 0;
     while found {
-        let w = put_next(nodes, n, count, &path, depth, room, used);
+        let w = put_next(&set, room, used);
         if w == 0 {
-            let last = last_set(room, k, from, size, base);
+            let last = last_set(room, from, used, base);
             return stopped(k, used, last);
         }
         from = used;
-        size = depth;
         used += w;
         k += 1;
-        let next = walk::advance(nodes, n, count, &mut path, depth);
+        let next = walk::advance(nodes, n, count, &mut path, &mut set, depth);
         found = next.found;
         depth = next.depth;
     }
-    let last = last_set(room, k, from, size, base);
+    let last = last_set(room, from, used, base);
     done(k, used, last, true)
 }
 

@@ -1,13 +1,14 @@
--- The bits of a number: trailing zeros, a single bit, `|` and `^`.
+-- The bits of a number: trailing zeros, a single bit, `|`, `^` and `&`, and the number without its lowest set bit.
 -- Assumes nothing.
 use mathlib.Core.Path.{_≡_, refl, sym, ap, _∙_, subst}
-use Prim.Native.Nat.{ℕ, zero, suc, _+_, _/_, _%_, _^_, _<_, suc-le-suc, max}
+use Prim.Native.Nat.{ℕ, zero, suc, _+_, _-_, _/_, _%_, _^_, _<_, suc-le-suc, max, min}
 use native.Mathlib.Nat.{not-suc-le-zero, le-of-suc-le-suc, zero-lt-suc, mod-lt, pow-suc, zero-div}
+use native.Mathlib.Decide.{decLt}
 use native.Mathlib.Numerals.{add-one, one-add}
 use native.Mathlib.Omega.{arith}
 use lib.Arith.{digits-mod}
 use lib.Pow.{shr-shr, shr-lt}
-use lib.Bits.{bitXor, bitOr, differ, xor-shr, xor-step, or-shr, or-step, xor-add-and, and-le-l, and-le-r}
+use lib.Bits.{bitXor, bitOr, bitAnd, differ, xor-shr, xor-step, or-shr, or-step, and-shr, and-step, xor-add-and, and-le-l, and-le-r}
 use lib.Count.{trailingZeros, under}
 use Rattle.sets.specs.Words.{bit, Trail}
 
@@ -64,7 +65,7 @@ bit-other zero (suc j) h = bit-suc 1 j ∙ bit-none j
 bit-other (suc b) zero h = bit-zero (2 ^ suc b) ∙ omega (arith, pow-suc 2 b)
 bit-other (suc b) (suc j) h = bit-suc (2 ^ suc b) j ∙ ap (λ (n : ℕ). bit n j) (half-pow b) ∙ bit-other b j (λ e. h (ap suc e))
 
--- bits of `^` and `|`
+-- bits of `^`, `|` and `&`
 differ-lt : (x y : ℕ) → x < 2 → y < 2 → differ x y < 2
 differ-lt zero y h k = k
 differ-lt (suc x) zero h k = h
@@ -87,6 +88,13 @@ pub bit-or : (a b j : ℕ) → bit (bitOr a b) j ≡ max (bit a j) (bit b j)
 unfolding bit
 bit-or a b j = ap (λ (n : ℕ). n % 2) (or-shr a b j) ∙ or-low (a / 2 ^ j) (b / 2 ^ j)
 
+and-low : (a b : ℕ) → bitAnd a b % 2 ≡ min (a % 2) (b % 2)
+and-low a b = omega (arith, and-step a b)
+
+pub bit-and : (a b j : ℕ) → bit (bitAnd a b) j ≡ min (bit a j) (bit b j)
+unfolding bit
+bit-and a b j = ap (λ (n : ℕ). n % 2) (and-shr a b j) ∙ and-low (a / 2 ^ j) (b / 2 ^ j)
+
 -- two numbers whose `^` is 0 are equal
 pub xor-same : (a b : ℕ) → bitXor a b ≡ 0 → a ≡ b
 xor-same a b e = omega (arith, xor-add-and a b, and-le-l a b, and-le-r a b)
@@ -94,3 +102,43 @@ xor-same a b e = omega (arith, xor-add-and a b, and-le-l a b, and-le-r a b)
 pub bit-lt : (w j : ℕ) → bit w j < 2
 unfolding bit
 bit-lt w j = omega arith
+
+-- ---- a number less 1 lacks the lowest set bit, and agrees above it
+
+less-own : (t w : ℕ) → bit w t ≡ 1 → ((j : ℕ) → j < t → bit w j ≡ 0) → bit (w - 1) t ≡ 0
+less-own zero w e c = let o : w % 2 ≡ 1 = sym (bit-zero w) ∙ e in bit-zero (w - 1) ∙ omega arith
+less-own (suc t) w e c =
+    let even : w % 2 ≡ 0 = sym (bit-zero w) ∙ c 0 (zero-lt-suc t) in
+    let half : (w - 1) / 2 ≡ w / 2 - 1 = omega arith in
+    bit-suc (w - 1) t ∙ ap (λ (n : ℕ). bit n t) half ∙ less-own t (w / 2) (sym (bit-suc w t) ∙ e) (λ j h. sym (bit-suc w j) ∙ c (suc j) (suc-le-suc h))
+
+less-above : (t w j : ℕ) → bit w t ≡ 1 → ((i : ℕ) → i < t → bit w i ≡ 0) → t < j → bit (w - 1) j ≡ bit w j
+less-above t w zero e c h = absurd (omega arith)
+less-above zero w (suc j) e c h =
+    let o : w % 2 ≡ 1 = sym (bit-zero w) ∙ e in
+    let half : (w - 1) / 2 ≡ w / 2 = omega arith in
+    bit-suc (w - 1) j ∙ ap (λ (n : ℕ). bit n j) half ∙ sym (bit-suc w j)
+less-above (suc t) w (suc j) e c h =
+    let even : w % 2 ≡ 0 = sym (bit-zero w) ∙ c 0 (zero-lt-suc t) in
+    let half : (w - 1) / 2 ≡ w / 2 - 1 = omega arith in
+    bit-suc (w - 1) j ∙ ap (λ (n : ℕ). bit n j) half ∙ less-above t (w / 2) j (sym (bit-suc w t) ∙ e) (λ i g. sym (bit-suc w i) ∙ c (suc i) (suc-le-suc g)) (le-of-suc-le-suc h) ∙ sym (bit-suc w j)
+
+-- so `&` with it takes that bit out, and leaves the others
+pub drop-own : {w k t : ℕ} → Trail w k t → bit (bitAnd w (w - 1)) t ≡ 0
+drop-own {w} {t = t} r = bit-and w (w - 1) t ∙ go (bit w t) (bit (w - 1) t) (less-own t w (r .set) (r .clear))
+  where
+    go : (x y : ℕ) → y ≡ 0 → min x y ≡ 0
+    go x y e = omega arith
+
+pub drop-other : {w k t : ℕ} → Trail w k t → (j : ℕ) → (j ≡ t → ⊥) → bit (bitAnd w (w - 1)) j ≡ bit w j
+drop-other {w} {t = t} r j n = bit-and w (w - 1) j ∙ go (decLt j t)
+  where
+    low : (x y : ℕ) → x ≡ 0 → min x y ≡ x
+    low x y e = omega arith
+
+    same : (x y : ℕ) → y ≡ x → min x y ≡ x
+    same x y e = omega arith
+
+    go : Dec (j < t) → min (bit w j) (bit (w - 1) j) ≡ bit w j
+    go (yes h) = low (bit w j) (bit (w - 1) j) (r .clear j h)
+    go (no h) = same (bit w j) (bit (w - 1) j) (less-above t w j (r .set) (r .clear) (omega arith))

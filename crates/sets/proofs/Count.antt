@@ -2,7 +2,7 @@
 -- Assumes nothing.
 use mathlib.Core.Path.{_≡_, refl, sym, ap, ap₂, _∙_, subst}
 use mathlib.Core.Bool.{Bool, true, false, cond}
-use mathlib.Core.List.{List, [], _∷_}
+use mathlib.Core.List.{List, [], _∷_, _++_}
 use Prim.Native.Nat.{ℕ, zero, suc, _+_, _*_, _/_, _%_, _^_, _≤_, _<_}
 use native.Mathlib.Nat.{zero-add, add-zero, suc-add, mod-lt, zero-lt-suc}
 use native.Mathlib.Numerals.{add-one}
@@ -20,15 +20,15 @@ use Rattle.sets.proofs.Bit.{bit-suc, bit-zero}
 use Rattle.sets.proofs.Words.{set-in}
 
 -- the members among a + b events, in two parts
-count-add : (S : Set) (a b m : ℕ) → length (keep S (upTo (a + b) m)) ≡ length (keep S (upTo a m)) + length (keep S (upTo b (m + a)))
-count-add S zero b m = ap₂ (λ (k i : ℕ). length (keep S (upTo k i))) (zero-add b) (sym (add-zero m)) ∙ sym (zero-add (length (keep S (upTo b (m + 0)))))
-count-add S (suc a) b m =
+pub keep-add : (S : Set) (a b m : ℕ) → keep S (upTo (a + b) m) ≡ keep S (upTo a m) ++ keep S (upTo b (m + a))
+keep-add S zero b m = ap₂ (λ (k i : ℕ). keep S (upTo k i)) (zero-add b) (sym (add-zero m))
+keep-add S (suc a) b m =
     let at : suc m + a ≡ m + suc a = omega arith in
-    ap (λ (k : ℕ). length (keep S (upTo k m))) (suc-add a b)
-    ∙ go (keep S (upTo (a + b) (suc m))) (keep S (upTo a (suc m))) (length (keep S (upTo b (m + suc a)))) (S m) (count-add S a b (suc m) ∙ ap (λ (i : ℕ). length (keep S (upTo a (suc m))) + length (keep S (upTo b i))) at)
+    ap (λ (k : ℕ). keep S (upTo k m)) (suc-add a b)
+    ∙ go (keep S (upTo (a + b) (suc m))) (keep S (upTo a (suc m))) (keep S (upTo b (m + suc a))) (S m) (keep-add S a b (suc m) ∙ ap (λ (i : ℕ). keep S (upTo a (suc m)) ++ keep S (upTo b i)) at)
   where
-    go : (l r : List ℕ) (x : ℕ) (t : Bool) → length l ≡ length r + x → length (cond t (m ∷ l) l) ≡ length (cond t (m ∷ r) r) + x
-    go l r x true e = omega arith
+    go : (l r x : List ℕ) (t : Bool) → l ≡ r ++ x → cond t (m ∷ l) l ≡ cond t (m ∷ r) r ++ x
+    go l r x true e = ap (λ (y : List ℕ). m ∷ y) e
     go l r x false e = e
 
 -- at most all of them are members
@@ -64,7 +64,7 @@ count-word ws k h =
     let word : length (keep (setOf ws) (upTo 64 (0 + k * 64))) ≡ ones (getD ws k 0) =
     count-bits (setOf ws) 64 (0 + k * 64) (getD ws k 0) h (λ j l. ap (λ (i : ℕ). setOf ws (i + j)) (zero-add (k * 64)) ∙ set-in ws k j l) in
     ap (λ (n : ℕ). length (members (k * 64) (setOf ws)) + n) (sym word)
-    ∙ sym (count-add (setOf ws) (k * 64) 64 0) ∙ ap (λ (n : ℕ). length (members n (setOf ws))) end
+    ∙ sym (ap length (keep-add (setOf ws) (k * 64) 64 0) ∙ length-append (members (k * 64) (setOf ws)) (keep (setOf ws) (upTo 64 (0 + k * 64)))) ∙ ap (λ (n : ℕ). length (members n (setOf ws))) end
 
 -- ---- the bytes
 

@@ -173,18 +173,18 @@ pub none-apart : (a b : List ℕ) (k : ℕ) → bitXor (getD a k 0) (getD b k 0)
 none-apart a b k z agree =
     blocks-more (λ (j : ℕ). setOf a j ≡ setOf b j) k agree (λ r h. sets-same a b k r h (ap (λ (n : ℕ). bit n r) (xor-same (getD a k 0) (getD b k 0) z)))
 
--- ---- a set with an event put in
+-- ---- a set with an event put in or taken out
 
 -- a word stored where only the event's bit differs
-put-word : (ws : List ℕ) (i u : ℕ) → i < room ws → bit u (i % 64) ≡ 1
-    → ((r : ℕ) → (r ≡ i % 64 → ⊥) → bit u r ≡ bit (getD ws (i / 64) 0) r) → setOf (set ws (i / 64) u) ≡ put i true (setOf ws)
+put-word : (ws : List ℕ) (i u v : ℕ) → i < room ws → bit u (i % 64) ≡ v
+    → ((r : ℕ) → (r ≡ i % 64 → ⊥) → bit u r ≡ bit (getD ws (i / 64) 0) r) → setOf (set ws (i / 64) u) ≡ put i (eqb v 1) (setOf ws)
 unfolding setOf
-put-word ws i u h e o = fun-ext (λ j. go j (ℕ-discrete j i) (ℕ-discrete (j / 64) (i / 64)))
+put-word ws i u v h e o = fun-ext (λ j. go j (ℕ-discrete j i) (ℕ-discrete (j / 64) (i / 64)))
   where
     stored : getD (set ws (i / 64) u) (i / 64) 0 ≡ u
     stored = getD-set-same ws (i / 64) u 0 (omega arith)
 
-    go : (j : ℕ) → Dec (j ≡ i) → Dec (j / 64 ≡ i / 64) → setOf (set ws (i / 64) u) j ≡ put i true (setOf ws) j
+    go : (j : ℕ) → Dec (j ≡ i) → Dec (j / 64 ≡ i / 64) → setOf (set ws (i / 64) u) j ≡ put i (eqb v 1) (setOf ws) j
     go j (yes q) p = rw (eq-eqb j i q) (ap (λ (x : ℕ). eqb (bit (getD (set ws (i / 64) u) (x / 64) 0) (x % 64)) 1) q ∙ ap (λ (n : ℕ). eqb (bit n (i % 64)) 1) stored ∙ ap (λ (n : ℕ). eqb n 1) e)
     go j (no q) (yes p) =
         rw (ne-eqb j i q) (ap (λ (x : ℕ). eqb (bit (getD (set ws (i / 64) u) x 0) (j % 64)) 1) p
@@ -192,24 +192,53 @@ put-word ws i u h e o = fun-ext (λ j. go j (ℕ-discrete j i) (ℕ-discrete (j 
         ∙ ap (λ (x : ℕ). eqb (bit (getD ws x 0) (j % 64)) 1) (sym p))
     go j (no q) (no p) = rw (ne-eqb j i q) (ap (λ (n : ℕ). eqb (bit n (j % 64)) 1) (getD-set-other ws (i / 64) (j / 64) u 0 p))
 
--- `|` with the bit, as the code shifts it
+-- one bit, as the code shifts it
+one-bit : (t : ℕ) → t < 64 → (1 * 2 ^ t) % 2 ^ 64 ≡ 2 ^ t
+one-bit t f = ap (λ (n : ℕ). n % 2 ^ 64) (one-mul (2 ^ t)) ∙ mod-eq-of-lt (pow-lt f)
+
+bit-one : (t : ℕ) → t < 64 → bit ((1 * 2 ^ t) % 2 ^ 64) t ≡ 1
+bit-one t f = ap (λ (n : ℕ). bit n t) (one-bit t f) ∙ bit-own t
+
+bit-rest : (t r : ℕ) → t < 64 → (r ≡ t → ⊥) → bit ((1 * 2 ^ t) % 2 ^ 64) r ≡ 0
+bit-rest t r f n = ap (λ (q : ℕ). bit q r) (one-bit t f) ∙ bit-other t r n
+
+-- `|` with the bit
 pub put-in : (ws : List ℕ) (i : ℕ) → i < room ws → setOf (set ws (i / 64) (bitOr (getD ws (i / 64) 0) ((1 * 2 ^ (i % 64)) % 2 ^ 64))) ≡ put i true (setOf ws)
 put-in ws i h =
     let w = getD ws (i / 64) 0 in
     let v = (1 * 2 ^ (i % 64)) % 2 ^ 64 in
     let f : i % 64 < 64 = omega arith in
-    let s : v ≡ 2 ^ (i % 64) = ap (λ (n : ℕ). n % 2 ^ 64) (one-mul (2 ^ (i % 64))) ∙ mod-eq-of-lt (pow-lt f) in
-    let own : bit v (i % 64) ≡ 1 = ap (λ (n : ℕ). bit n (i % 64)) s ∙ bit-own (i % 64) in
     let low = bit-lt w (i % 64) in
-    put-word ws i (bitOr w v) h
-    (bit-or w v (i % 64) ∙ max-one (bit w (i % 64)) (bit v (i % 64)) low own)
-    (λ r n. bit-or w v r ∙ max-none (bit w r) (bit v r) (ap (λ (q : ℕ). bit q r) s ∙ bit-other (i % 64) r n))
+    put-word ws i (bitOr w v) 1 h
+    (bit-or w v (i % 64) ∙ max-one (bit w (i % 64)) (bit v (i % 64)) low (bit-one (i % 64) f))
+    (λ r n. bit-or w v r ∙ max-none (bit w r) (bit v r) (bit-rest (i % 64) r f n))
   where
     max-one : (x y : ℕ) → x < 2 → y ≡ 1 → max x y ≡ 1
     max-one x y h e = omega arith
 
     max-none : (x y : ℕ) → y ≡ 0 → max x y ≡ x
     max-none x y e = omega arith
+
+-- `^` with a bit that is set clears it, and leaves the others
+differ-none : (x y : ℕ) → y ≡ 0 → differ x y ≡ x
+differ-none zero y e = e
+differ-none (suc x) zero e = refl
+differ-none (suc x) (suc y) e = absurd (omega arith)
+
+clear-own : (w t : ℕ) → t < 64 → bit w t ≡ 1 → bit (bitXor w ((1 * 2 ^ t) % 2 ^ 64)) t ≡ 0
+clear-own w t f e = bit-xor w ((1 * 2 ^ t) % 2 ^ 64) t ∙ ap₂ differ e (bit-one t f) ∙ differ-self 1
+
+clear-other : (w t r : ℕ) → t < 64 → (r ≡ t → ⊥) → bit (bitXor w ((1 * 2 ^ t) % 2 ^ 64)) r ≡ bit w r
+clear-other w t r f n = bit-xor w ((1 * 2 ^ t) % 2 ^ 64) r ∙ differ-none (bit w r) (bit ((1 * 2 ^ t) % 2 ^ 64) r) (bit-rest t r f n)
+
+pub take-out : (ws : List ℕ) (i : ℕ) → i < room ws → setOf ws i ≡ true → setOf (set ws (i / 64) (bitXor (getD ws (i / 64) 0) ((1 * 2 ^ (i % 64)) % 2 ^ 64))) ≡ put i false (setOf ws)
+unfolding setOf
+take-out ws i h e =
+    let w = getD ws (i / 64) 0 in
+    let f : i % 64 < 64 = omega arith in
+    put-word ws i (bitXor w ((1 * 2 ^ (i % 64)) % 2 ^ 64)) 0 h
+    (clear-own w (i % 64) f (same-bit (bit w (i % 64)) 1 (bit-lt w (i % 64)) (omega arith) e))
+    (λ r n. clear-other w (i % 64) r f n)
 
 -- ---- the empty set
 

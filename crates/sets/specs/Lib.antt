@@ -1,2 +1,3 @@
--- A set of events in words, and what its functions answer.
+-- A set of events in words, what its functions answer, and its bytes.
 pub mod Words
+pub mod Bytes

@@ -14,7 +14,7 @@ same-length : tie.Need-same-length
 same-length c = search needs
 
 returns : tie.Need-returns
-returns c = reached-from (c .before .before .before .before .climb .ensures) (c .before .before .land .ensures)
+returns c = (reached-from (c .before .before .before .before .before .climb .ensures .0) (c .before .before .land .ensures .0), c .before .before .land .ensures .1)
 
 pub advance-spec : {M : Type 1} → statement M
 advance-spec = tie.close (tie.spec climb-requires land-requires same-length returns)

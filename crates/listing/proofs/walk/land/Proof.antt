@@ -1,11 +1,15 @@
 -- `listing::walk::land` meets its contract. Assumes nothing.
 use borrow.Author.Needs.{needs}
+use mathlib.Core.Path.{refl}
 use Rattle.listing.proofs.Steps.{land-none}
+use Rattle.listing.proofs.Carry.{carries-zero}
 use Rattle.listing.proofs.walk.land.Statement.{statement}
 use Rattle.listing.proofs.walk.land.Tie as tie
 
 returns : tie.Need-returns
-returns c = land-none (c .before .before .before .pre .0) (c .before .before .before .pre .1) (c .if1 .taken)
+returns c =
+    let pre = c .before .before .before .pre in
+    (land-none (pre .0) (pre .1) (c .if1 .taken), carries-zero (pre .0) (pre .2) (pre .1 (c .if1 .taken)) refl)
 
 descend-requires : tie.Need-descend-requires
 descend-requires c κs = search needs

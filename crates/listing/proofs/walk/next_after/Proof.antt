@@ -14,7 +14,7 @@ same-length : tie.Need-same-length
 same-length c = search needs
 
 returns : tie.Need-returns
-returns c = reached-from (c .before .before .before .before .before .before .seek .ensures) (c .before .before .land .ensures)
+returns c = (reached-from (c .before .before .before .before .before .before .before .seek .ensures .0) (c .before .before .land .ensures .0), c .before .before .land .ensures .1)
 
 pub next-after-spec : {M : Type 1} → statement M
 next-after-spec = tie.close (tie.spec seek-requires land-requires same-length returns)

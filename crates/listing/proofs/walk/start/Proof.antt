@@ -11,7 +11,7 @@ same-length : tie.Need-same-length
 same-length c = search needs
 
 returns : tie.Need-returns
-returns c = start-all (c .before .before .before .before .before .before .before .before .args .root) (c .before .before .before .before .before .before .before .before .args .begin) (c .before .before .before .before .before .before .before .before .args .s .now) (c .before .before .before .before .if1 .taken) (c .before .before .land .ensures)
+returns c = let at = c .before .before .before .before .before .before .before .before .before .args in (start-all (at .root) (at .begin) (at .s .now) (c .before .before .before .before .before .if1 .taken) (c .before .before .land .ensures .0), c .before .before .land .ensures .1)
 
 next-after-requires : tie.Need-next-after-requires
 next-after-requires c κs = search needs
@@ -20,7 +20,7 @@ same-length-2 : tie.Need-same-length-2
 same-length-2 c = search needs
 
 returns-2 : tie.Need-returns-2
-returns-2 c = start-after (c .before .before .before .before .before .before .before .before .args .root) (c .before .before .before .before .before .before .before .before .args .begin) (c .before .before .before .before .before .before .before .before .args .s .now) (c .before .before .before .before .if1 .left) (c .before .before .next-after .ensures)
+returns-2 c = let at = c .before .before .before .before .before .before .before .before .before .args in (start-after (at .root) (at .begin) (at .s .now) (c .before .before .before .before .before .if1 .left) (c .before .before .next-after .ensures .0), c .before .before .next-after .ensures .1)
 
 pub start-spec : {M : Type 1} → statement M
 start-spec =

@@ -1,0 +1,29 @@
+-- The bytes of a set in words.
+-- Assumes nothing.
+use mathlib.Core.Path.{_≡_}
+use mathlib.Core.List.{List, _++_}
+use Prim.Native.Nat.{ℕ, _+_, _-_, _≤_, _<_}
+use lib.Dec.{eqb}
+use lib.ListN.{length, drop}
+use Rattle.paper.specs.Lists.{keep, upTo}
+use Rattle.paper.specs.Sets.{Set}
+use Rattle.sets.specs.Words.{bit, room}
+
+-- the set of a word whose bit 0 is event m, and its members
+unfoldable pub wordSet : ℕ → ℕ → Set
+wordSet w m i = eqb (bit w (i - m)) 1
+
+unfoldable pub inWord : ℕ → ℕ → List ℕ
+inWord w m = keep (wordSet w m) (upTo 64 m)
+
+-- the number of each event has one byte: of a word from m on, and of all words
+abbrev pub InByte : ℕ → Type 0
+InByte m = m + 64 ≤ 256
+
+abbrev pub OneByte : List ℕ → Type 0
+OneByte ws = room ws ≤ 256
+
+-- the bytes of a cut were written at the front of a room, r of them, where they fit; r is 0 where they do not
+pub record Laid (cut room : List ℕ) (r : ℕ) (room′ : List ℕ) : Type 0 where
+  pub short : r ≡ 0 → (length room < length cut) × (room′ ≡ room)
+  pub laid : 0 < r → (r ≡ length cut) × (r ≤ length room) × (room′ ≡ cut ++ drop r room)
