@@ -1,6 +1,8 @@
 // The program: reads a tree from standard input, and writes its counts, its cuts and its top's bracket, or one line of refusal.
 use filling::Analysis;
 use records::Tree;
+ghost use Rattle.text.specs.Lines.{head as headText};
+ghost use Rattle.text.specs.Places.{Front};
 ghost use Rattle.calls.specs.Tops.{Held};
 
 mod pages; // pages.rt: the lines of the cuts, one room after another
@@ -21,10 +23,17 @@ fn say_refusal(number: u8, place: usize) {
     io::write_all(1, &line[..n]);
 }
 
+// The lines before the cuts: the tree's counts, and the nodes of the whole table.
+fn head_of(lines: &mut [u8; text::ROOM], tree: Tree, a: Analysis) -> usize
+    ensures { λ r. ⌜ Front r (now (lines .exit)) (headText (tree .«event_count») (tree .«gate_count») (a .nodes)) ⌝ }
+{
+    text::head(lines, tree.event_count, tree.gate_count, a.nodes)
+}
+
 // Whether the head could be written.
-fn say_head(events: usize, gates: usize, nodes: usize) -> bool {
+fn say_head(tree: Tree, a: Analysis) -> bool {
     let mut lines = [0u8; text::ROOM];
-    let n = text::head(&mut lines, events, gates, nodes);
+    let n = head_of(&mut lines, tree, a);
     io::write_all(1, &lines[..n])
 }
 
@@ -45,11 +54,10 @@ fn report(
 )
     requires { ⌜ Held tree (now nodes) (now cuts) a ⌝ }
 {
-    let events = tree.event_count;
-    if !say_head(events, tree.gate_count, a.nodes) {
+    if !say_head(tree, a) {
         return;
     }
-    if !pages::say_cuts(cuts, events, a.cut_nodes, a.cut_root) {
+    if !pages::say_cuts(cuts, tree.event_count, a.cut_nodes, a.cut_root) {
         return;
     }
     let ends = calls::top(tree, nodes, a.nodes, a.root, lows, highs);
