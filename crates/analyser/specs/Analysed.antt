@@ -7,9 +7,9 @@ use lib.ListN.{length}
 use Rattle.paper.specs.Limits.{limits}
 use Rattle.paper.specs.Answers.{NodesFull, CutsFull}
 use Rattle.records.specs.Judge.{Book, accept, refuse, outcome}
-use Rattle.records.specs.Answers.{verdict}
+use Rattle.rules.specs.Answers.{verdict}
 use Rattle.records.specs.Trees.{treeOf}
-use Rattle.records.specs.declared.Answer.{Answer}
+use Rattle.rules.specs.declared.Answer.{Answer}
 use Rattle.records.specs.declared.Tree.{Tree}
 use Rattle.filling.specs.Memory.{Memory, Lengths, AllZero, capacity}
 use Rattle.filling.specs.Outcome.{Refused, at, Done}

@@ -102,9 +102,9 @@ pub fn analyse(
 {
     let r = records::read(bytes);
     let a = r.answer;
-    let number = records::number(a);
+    let number = rules::number(a);
     if number != 0 {
-        return filling::refused(number, records::place(a));
+        return filling::refused(number, rules::place(a));
     }
     let tree = r.tree;
     analyse_tree(tree, nodes, cuts, gates, memo, heads, next, marks, own)

@@ -8,11 +8,11 @@ use native.Mathlib.Omega.{arith}
 use Rattle.paper.specs.Limits.{limits}
 use Rattle.paper.specs.Trees.{events}
 use Rattle.tables.specs.Lent.{Lent}
-use Rattle.records.specs.Answers.{verdict}
+use Rattle.rules.specs.Answers.{verdict}
 use Rattle.records.specs.Judge.{Book, accept, refuse, outcome}
 use Rattle.records.specs.Memory.{noEvent, memory, inMemory}
 use Rattle.records.specs.Trees.{Lawful, treeOf}
-use Rattle.records.specs.declared.Answer.{Answer}
+use Rattle.rules.specs.declared.Answer.{Answer}
 use Rattle.records.specs.declared.Event.{Event}
 use Rattle.records.specs.declared.Reading.{Reading}
 use Rattle.records.specs.declared.Tree.{Tree}

@@ -7,11 +7,11 @@ use Prim.Native.Nat.{ℕ}
 use mir.Val.{boolByte}
 use borrow.Author.Tests.{eq-eqb, ne-eqb}
 use Rattle.paper.specs.Limits.{limits}
-use Rattle.records.specs.Answers.{verdict}
+use Rattle.rules.specs.Answers.{verdict}
 use Rattle.writing.specs.Bytes.{Wrote, wrote, writeOf}
 use Rattle.records.specs.Judge.{outcome}
 use Rattle.records.specs.Memory.{inMemory}
-use Rattle.records.specs.declared.Answer.{Answer}
+use Rattle.rules.specs.declared.Answer.{Answer}
 use Rattle.records.specs.declared.Event.{Event}
 use Rattle.records.specs.declared.Reading.{Reading}
 use Rattle.arrays.specs.Chances.{chancesOf, eventsOf}

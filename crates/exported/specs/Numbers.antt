@@ -4,7 +4,7 @@ use mathlib.Core.Bool.{cond}
 use mathlib.Core.List.{List, [], _∷_}
 use Prim.Native.Nat.{ℕ}
 use lib.ListN.{getD}
-use Rattle.records.specs.Answers.{verdict}
+use Rattle.rules.specs.Answers.{verdict}
 use Rattle.writing.specs.Bytes.{Wrote}
 use Rattle.records.specs.declared.Reading.{Reading}
 use Rattle.listing.specs.declared.Listed.{Listed}

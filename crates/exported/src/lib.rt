@@ -37,8 +37,8 @@ pub extern "C" fn matticklet_read(
     let r = analyser::read(bytes);
     let a = r.answer;
     let t = r.tree;
-    let number = records::number(a);
-    let place = records::place(a);
+    let number = rules::number(a);
+    let place = rules::place(a);
     *answer = [
         number as u64,
         place as u64,
@@ -89,8 +89,8 @@ pub extern "C" fn matticklet_write(
     let w = analyser::write(tree, room);
     let a = w.answer;
     *answer = [
-        records::number(a) as u64,
-        records::place(a) as u64,
+        rules::number(a) as u64,
+        rules::place(a) as u64,
         w.bytes as u64,
     ];
 }

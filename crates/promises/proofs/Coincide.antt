@@ -19,10 +19,10 @@ use Rattle.tables.specs.Table.{den}
 use Rattle.tables.proofs.Lent.{lent-lower, root-ordered, root-suppressed}
 use Rattle.tables.proofs.Once.{den-inj, lent-good}
 use Rattle.store.proofs.Denotes.{below-or-not}
-use Rattle.records.specs.Answers.{verdict}
+use Rattle.rules.specs.Answers.{verdict}
 use Rattle.records.specs.Judge.{Book, accept, refuse, outcome}
 use Rattle.records.specs.Trees.{treeOf}
-use Rattle.records.specs.declared.Answer.{Answer}
+use Rattle.rules.specs.declared.Answer.{Answer}
 use Rattle.filling.specs.Memory.{Memory, Lengths, AllZero, capacity}
 use Rattle.filling.specs.Outcome.{Refused, Done}
 use Rattle.analyser.specs.Analysed.{Analysed}

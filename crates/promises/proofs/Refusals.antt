@@ -7,20 +7,20 @@ use native.Mathlib.Omega.{arith}
 use lib.Dec.{ltb, leb, eqb}
 use lib.ListN.{length, drop}
 use Rattle.paper.specs.Limits.{limits, billion}
-use Rattle.records.specs.Answers.{verdict}
-use Rattle.records.specs.Format.{recordOf}
-use Rattle.records.specs.Rules.{wrongK, admitOf, stepOf}
+use Rattle.rules.specs.Answers.{verdict}
+use Rattle.rules.specs.Format.{recordOf}
+use Rattle.rules.specs.Rules.{wrongK, admitOf, stepOf}
 use Rattle.records.specs.Judge.{Book, start, counts, addEvent, addGate, addInput, Outcome, accept, refuse, unusedBy, closeOf, run, outcome}
-use Rattle.records.specs.declared.Answer.{Answer}
-use Rattle.records.specs.declared.Answer.the-variants.{Unused}
-use Rattle.records.specs.declared.format.Record.{Record}
-use Rattle.records.specs.declared.format.Record.the-variants.{Missing, Unknown, Short, Event, Gate, EventInput, GateInput, End}
-use Rattle.records.specs.declared.judge.State.{State}
-use Rattle.records.specs.declared.judge.Step.{Step}
-use Rattle.records.specs.declared.judge.Step.the-variants.{AddEvent, AddGate, AddInput, Close, Refused}
+use Rattle.rules.specs.declared.Answer.{Answer}
+use Rattle.rules.specs.declared.Answer.the-variants.{Unused}
+use Rattle.rules.specs.declared.format.Record.{Record}
+use Rattle.rules.specs.declared.format.Record.the-variants.{Missing, Unknown, Short, Event, Gate, EventInput, GateInput, End}
+use Rattle.rules.specs.declared.judge.State.{State}
+use Rattle.rules.specs.declared.judge.Step.{Step}
+use Rattle.rules.specs.declared.judge.Step.the-variants.{AddEvent, AddGate, AddInput, Close, Refused}
 use Rattle.records.specs.declared.uses.Found.{Found}
 use Rattle.records.specs.declared.uses.Found.the-variants.{At, Nothing}
-use Rattle.records.proofs.Cases.{if-elim}
+use Rattle.rules.proofs.Cases.{if-elim}
 use Rattle.promises.specs.Reasons.{OneToEight}
 use Rattle.records.proofs.Runs.{run-event, run-gate, run-input, run-close, run-refused}
 

@@ -8,10 +8,10 @@ use native.Mathlib.Omega.{arith}
 use lib.ListN.{length, replicate}
 use Rattle.paper.specs.Limits.{limits}
 use Rattle.paper.specs.Answers.{NodesFull, CutsFull}
-use Rattle.records.specs.Answers.{verdict}
+use Rattle.rules.specs.Answers.{verdict}
 use Rattle.records.specs.Judge.{refuse, outcome}
 use Rattle.records.specs.Trees.{treeOf}
-use Rattle.records.specs.declared.Answer.{Answer}
+use Rattle.rules.specs.declared.Answer.{Answer}
 use Rattle.filling.specs.Memory.{Memory, Lengths, AllZero, capacity}
 use Rattle.filling.specs.Outcome.{Refused, at, Done}
 use Rattle.analyser.specs.Analysed.{Analysed}

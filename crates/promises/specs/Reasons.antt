@@ -6,10 +6,10 @@ use Prim.Native.Nat.{ℕ, _≤_}
 use lib.ListN.{length}
 use Rattle.paper.specs.Limits.{limits}
 use Rattle.paper.specs.Answers.{NodesFull, CutsFull}
-use Rattle.records.specs.Answers.{verdict}
+use Rattle.rules.specs.Answers.{verdict}
 use Rattle.records.specs.Judge.{Book, accept, refuse, outcome}
 use Rattle.records.specs.Trees.{treeOf}
-use Rattle.records.specs.declared.Answer.{Answer}
+use Rattle.rules.specs.declared.Answer.{Answer}
 use Rattle.filling.specs.Memory.{Memory, Lengths, capacity}
 
 abbrev pub OneToEight : ℕ → Type 0

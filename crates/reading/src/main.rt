@@ -4,7 +4,7 @@ mod hexadecimal; // the bytes that a line of text stands for
 mod changes; // a tree changed in memory, and written
 
 use hexadecimal::parse;
-use records::Answer;
+use rules::Answer;
 ghost use Prim.Native.Nat.{_≤_, _<_};
 ghost use lib.ListN.{length};
 
@@ -13,9 +13,9 @@ const VECTOR: usize = 20480;
 
 // Says an answer: its number and its place.
 pub fn say(a: Answer) {
-    io::print_decimal(1, records::number(a) as u64);
+    io::print_decimal(1, rules::number(a) as u64);
     io::write_all(1, b" at ");
-    io::print_decimal(1, records::place(a) as u64);
+    io::print_decimal(1, rules::place(a) as u64);
 }
 
 // Whether a and b start with the same n bytes.
@@ -39,7 +39,7 @@ fn report(bytes: &[u8]) {
     let r = records::read(bytes);
     let a = r.answer;
     say(a);
-    if records::number(a) == 0 {
+    if rules::number(a) == 0 {
         let t = r.tree;
         let mut room = [0u8; VECTOR];
         let w = writing::write(t, &mut room);

@@ -6,18 +6,18 @@ use Prim.Native.Nat.{ℕ, _-_, _*_, _≤_}
 use native.Mathlib.Omega.{arith}
 use lib.ListN.{length, getD, take, length-take}
 use Rattle.paper.specs.Limits.{limits}
-use Rattle.records.specs.Answers.{verdict}
-use Rattle.records.specs.Format.{lengthOf}
+use Rattle.rules.specs.Answers.{verdict}
+use Rattle.rules.specs.Format.{lengthOf}
 use Rattle.paper.specs.Flat.{gatesFrom}
 use Rattle.records.specs.Uses.{lowestUnused, unusedOf}
 use Rattle.records.specs.Judge.{Book, Outcome, refuse, accept, unusedBy, closeOf, answerOf, counts, outcome, judge}
 use Rattle.records.specs.Memory.{inMemory}
 use Rattle.records.specs.Inner.{Complete, Fronts, Held}
-use Rattle.records.specs.declared.Answer.the-variants.{Done, Unused}
+use Rattle.rules.specs.declared.Answer.the-variants.{Done, Unused}
 use Rattle.records.specs.declared.uses.Found.{Found}
 use Rattle.records.specs.declared.uses.Found.the-variants.{At, Nothing}
 use Rattle.records.specs.declared.Reading.{Reading}
-use Rattle.records.specs.declared.judge.State.{State}
+use Rattle.rules.specs.declared.judge.State.{State}
 use Rattle.records.specs.declared.Tree.{Tree}
 use Rattle.records.proofs.Standing.{held-memory}
 

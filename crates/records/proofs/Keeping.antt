@@ -12,19 +12,18 @@ use borrow.Author.Tests.{ltb-true, ltb-false, le-ltb}
 use borrow.Author.Count.{below-more}
 use Rattle.paper.specs.Limits.{limits, billion}
 use Rattle.paper.specs.Lists.{sum}
-use Rattle.records.specs.Choice.{if_then_else_}
-use Rattle.records.specs.Format.{byte, recordOf, widthOf}
+use Rattle.rules.specs.Choice.{if_then_else_}
+use Rattle.rules.specs.Format.{byte, recordOf, widthOf}
 use Rattle.paper.specs.Flat.{gatesFrom}
-use Rattle.records.specs.Rules.{wrongK}
+use Rattle.rules.specs.Rules.{wrongK, Fits}
 use Rattle.records.specs.Judge.{Book, start, counts, _▷_, addEvent, addGate, addInput}
 use Rattle.records.specs.Memory.{noEvent}
-use Rattle.records.specs.Trees.{Fits}
-use Rattle.records.specs.Inner.{Bounded}
-use Rattle.records.specs.declared.format.Record.{Record}
-use Rattle.records.specs.declared.format.Record.the-variants.{Missing, Unknown, Short, Event, Gate, EventInput, GateInput, End}
-use Rattle.records.proofs.Cases.{if-elim, either, front, known, gate-small}
+use Rattle.rules.specs.States.{Bounded}
+use Rattle.rules.specs.declared.format.Record.{Record}
+use Rattle.rules.specs.declared.format.Record.the-variants.{Missing, Unknown, Short, Event, Gate, EventInput, GateInput, End}
+use Rattle.rules.proofs.Cases.{if-elim, either, front, known, gate-small}
 use Rattle.records.proofs.Pad.{length-▷}
-use Rattle.records.proofs.Steps.{OnEvent, OnGate, OnInput, IsInput, codeOf}
+use Rattle.rules.proofs.Steps.{OnEvent, OnGate, OnInput, IsInput, codeOf}
 use Rattle.records.proofs.Sums.{old, new, all-▷, sum-▷, sum-old, belows, belows-▷, last-is}
 
 -- a gate record that was read is of a gate's kind

@@ -7,18 +7,18 @@ use native.Mathlib.Numerals.{add-one}
 use native.Mathlib.Omega.{arith}
 use lib.ListN.{length, drop}
 use Rattle.paper.specs.Limits.{limits}
-use Rattle.records.specs.Format.{recordOf}
-use Rattle.records.specs.Rules.{stepOf}
-use Rattle.records.specs.Judge.{Book, start, counts, pastEvent, pastGate, pastInput, addEvent, addGate, addInput, accept, refuse, unusedBy, closeOf, run, outcome}
-use Rattle.records.specs.declared.Answer.{Answer}
-use Rattle.records.specs.declared.Answer.the-variants.{Unused}
+use Rattle.rules.specs.Format.{recordOf}
+use Rattle.rules.specs.Rules.{stepOf}
+use Rattle.records.specs.Judge.{Book, start, counts, addEvent, addGate, addInput, accept, refuse, unusedBy, closeOf, run, outcome}
+use Rattle.rules.specs.States.{pastEvent, pastGate, pastInput, Bounded}
+use Rattle.rules.specs.declared.Answer.{Answer}
+use Rattle.rules.specs.declared.Answer.the-variants.{Unused}
 use Rattle.records.specs.declared.uses.Found.{Found}
 use Rattle.records.specs.declared.uses.Found.the-variants.{At, Nothing}
-use Rattle.records.specs.declared.judge.State.{State}
-use Rattle.records.specs.declared.judge.Step.{Step}
-use Rattle.records.specs.declared.judge.Step.the-variants.{AddEvent, AddGate, AddInput, Close, Refused}
-use Rattle.records.proofs.Steps.{OnEvent, OnGate, OnInput, OnClose, Sound, sound-step}
-use Rattle.records.specs.Inner.{Bounded}
+use Rattle.rules.specs.declared.judge.State.{State}
+use Rattle.rules.specs.declared.judge.Step.{Step}
+use Rattle.rules.specs.declared.judge.Step.the-variants.{AddEvent, AddGate, AddInput, Close, Refused}
+use Rattle.rules.proofs.Steps.{OnEvent, OnGate, OnInput, OnClose, Sound, sound-step}
 use Rattle.records.proofs.Keeping.{Kept, kept-start, kept-event, kept-gate, kept-input, kept-bounded}
 use Rattle.records.proofs.Pad.{length-▷}
 

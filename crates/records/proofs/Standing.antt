@@ -6,12 +6,13 @@ use Prim.Native.Nat.{ℕ, _<_}
 use native.Mathlib.Omega.{arith}
 use lib.ListN.{length, set}
 use Rattle.paper.specs.Limits.{limits}
-use Rattle.records.specs.Rules.{stepOf}
-use Rattle.records.specs.Judge.{Book, start, counts, pastEvent, pastGate, pastInput, addEvent, addGate, addInput}
+use Rattle.rules.specs.Rules.{stepOf}
+use Rattle.records.specs.Judge.{Book, start, counts, addEvent, addGate, addInput}
+use Rattle.rules.specs.States.{pastEvent, pastGate, pastInput}
 use Rattle.records.specs.Memory.{pad, memory}
 use Rattle.records.specs.Inner.{Fronts, Held}
-use Rattle.records.specs.declared.judge.State.{State}
-use Rattle.records.specs.declared.judge.Step.the-variants.{AddEvent, AddGate, AddInput}
+use Rattle.rules.specs.declared.judge.State.{State}
+use Rattle.rules.specs.declared.judge.Step.the-variants.{AddEvent, AddGate, AddInput}
 use Rattle.records.specs.declared.Tree.{Tree}
 use Rattle.records.proofs.Keeping.{Kept}
 use Rattle.records.proofs.Pad.{pad-take, pad-fill}

@@ -12,10 +12,10 @@ use lib.Dec.{ltb, eqb}
 use borrow.Author.Tests.{ltb-true, ltb-false, lt-ltb, le-ltb, eqb-true}
 use borrow.Author.Count.{below-more}
 use Rattle.paper.specs.Lists.{sum}
-use Rattle.records.specs.Choice.{if_then_else_}
+use Rattle.rules.specs.Choice.{if_then_else_}
 use Rattle.records.specs.Uses.{among}
 use Rattle.records.specs.Judge.{_▷_}
-use Rattle.records.proofs.Cases.{if-elim, either}
+use Rattle.rules.proofs.Cases.{if-elim, either}
 use Rattle.records.proofs.Pad.{length-▷}
 
 module _ {A : Type 0} (xs : List A) (x d : A) where

@@ -9,15 +9,9 @@ use Rattle.records.specs.Judge.{Book, counts, unusedBy, closeOf}
 use Rattle.records.specs.Memory.{pad, noEvent, inMemory}
 use Rattle.records.specs.declared.Reading.{Reading}
 use Rattle.records.specs.declared.Tree.{Tree}
-use Rattle.records.specs.declared.judge.State.{State}
+use Rattle.rules.specs.declared.judge.State.{State}
 use Rattle.records.specs.declared.uses.Found.{Found}
 use Rattle.records.specs.declared.uses.Found.the-variants.{At, Nothing}
-
--- a state within the limits
-pub record Bounded (s : State) : Type 0 where
-  pub events : s .events ≤ limits .events
-  pub gates : s .gates ≤ limits .gates
-  pub inputs : s .inputs + s .left ≤ limits .inAll
 
 -- what is found is one of the n
 abbrev pub Below : ℕ → Found → Type 0

@@ -4,14 +4,14 @@ use mathlib.Core.List.{List, [], _∷_, _++_}
 use lib.ListN.{length}
 use Rattle.paper.specs.Answers.{Verdict}
 use Rattle.paper.specs.Limits.{Limits}
-use Rattle.records.specs.Answers.{verdict}
-use Rattle.records.specs.Rules.{stepOf}
+use Rattle.rules.specs.Answers.{verdict}
+use Rattle.rules.specs.Rules.{stepOf}
 use Rattle.records.specs.Uses.{unusedOf}
-use Rattle.records.specs.declared.Answer.{Answer}
-use Rattle.records.specs.declared.Answer.the-variants.{Done, Cut, Unused}
+use Rattle.rules.specs.declared.Answer.{Answer}
+use Rattle.rules.specs.declared.Answer.the-variants.{Done, Cut, Unused}
 use Rattle.records.specs.declared.Event.{Event}
-use Rattle.records.specs.declared.judge.State.{State}
-use Rattle.records.specs.declared.judge.Step.the-variants.{AddEvent, AddGate, AddInput, Close, Refused}
+use Rattle.rules.specs.declared.judge.State.{State}
+use Rattle.rules.specs.declared.judge.Step.the-variants.{AddEvent, AddGate, AddInput, Close, Refused}
 use Rattle.records.specs.declared.uses.Found.{Found}
 use Rattle.records.specs.declared.uses.Found.the-variants.{At, Nothing}
 
@@ -72,16 +72,6 @@ addInput b i next = record {
   places = b .places;
   inputs = _▷_ (b .inputs) i;
 }
-
--- the state past each kind of record
-abbrev pub pastEvent : State → ℕ → State
-pastEvent s next = record { at = next; events = s .events + 1; gates = s .gates; inputs = s .inputs; left = s .left }
-
-abbrev pub pastGate : State → ℕ → ℕ → State
-pastGate s n next = record { at = next; events = s .events; gates = s .gates + 1; inputs = s .inputs; left = n }
-
-abbrev pub pastInput : State → ℕ → State
-pastInput s next = record { at = next; events = s .events; gates = s .gates; inputs = s .inputs + 1; left = s .left - 1 }
 
 pub data Outcome : Type 0 where
   accept : Book → Outcome

@@ -4,7 +4,7 @@ use mathlib.Core.List.{List, [], _∷_, _++_}
 use lib.ListN.{length, replicate}
 use Rattle.paper.specs.Limits.{limits}
 use Rattle.records.specs.Judge.{Book, start, Outcome, accept, refuse}
-use Rattle.records.specs.declared.Answer.the-variants.{Done}
+use Rattle.rules.specs.declared.Answer.the-variants.{Done}
 use Rattle.records.specs.declared.Event.{Event}
 use Rattle.records.specs.declared.Reading.{Reading}
 use Rattle.records.specs.declared.Tree.{Tree}

@@ -8,6 +8,7 @@ use Rattle.paper.specs.Limits.{Limits, billion}
 use Rattle.paper.specs.Lists.{sum}
 use Rattle.paper.specs.Trees.{Input, event, gate, Gate, andG, orG, leastG, Tree}
 use Rattle.paper.specs.Flat.{gatesFrom, gatesOf}
+use Rattle.rules.specs.Rules.{Fits}
 use Rattle.records.specs.Uses.{among}
 use Rattle.records.specs.Judge.{Book}
 use Rattle.records.specs.Memory.{noEvent}
@@ -18,11 +19,6 @@ treeOf b = record {
   chances = map (λ (e : Event). e .chance) (b .events);
   gates = gatesOf (b .kinds) (b .leasts) 0 (b .sizes) (b .inputs);
 }
-
--- an input that gate g of a tree with so many events may have: one of the events, or a gate with a lower number
-pub record Fits (events g code : ℕ) : Type 0 where
-  pub below : code < gatesFrom + g
-  pub event : code < gatesFrom → code < events
 
 -- what holds of every tree that is accepted. Gate g has the inputs from the sum of the sizes before it on.
 pub record Lawful (L : Limits) (b : Book) : Type 0 where

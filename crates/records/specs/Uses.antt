@@ -5,8 +5,8 @@ use mathlib.Core.Bool.{Bool, true, false}
 use lib.Dec.{eqb}
 use lib.ListN.{length, getD}
 use Rattle.paper.specs.Flat.{gatesFrom}
-use Rattle.records.specs.Choice.{if_then_else_}
-use Rattle.records.specs.Format.{lengthOf}
+use Rattle.rules.specs.Choice.{if_then_else_}
+use Rattle.rules.specs.Format.{lengthOf}
 use Rattle.records.specs.declared.uses.Found.{Found}
 use Rattle.records.specs.declared.uses.Found.the-variants.{At, Nothing}
 

@@ -1,43 +1,25 @@
 // Tree records: any bytes judged by the paper's rules and read into a tree in memory.
-pub mod format; // the records: what stands at the front of some bytes
-pub mod judge; // what a record does at a place of the reading: numbers 1 to 7
 pub mod uses; // the search for an item that is an input nowhere: number 8
 
-use judge::State;
-use judge::Step;
-use judge::begin;
-use judge::next;
-use judge::past_event;
-use judge::past_gate;
-use judge::past_input;
 use paper::EVENTS;
 use paper::GATES;
 use paper::IN_ALL;
+use rules::Answer;
+use rules::judge::State;
+use rules::judge::Step;
+use rules::judge::begin;
+use rules::judge::next;
+use rules::judge::past_event;
+use rules::judge::past_gate;
+use rules::judge::past_input;
 use uses::Found;
 use uses::unused_in;
 ghost use mathlib.Core.Path.{_≡_};
 ghost use Rattle.paper.specs.Limits.{limits};
-ghost use Rattle.records.specs.Answers.{verdict};
+ghost use Rattle.rules.specs.Answers.{verdict};
 ghost use Rattle.records.specs.Judge.{start, refuse, outcome, judge};
 ghost use Rattle.records.specs.Memory.{memory, inMemory};
 ghost use Rattle.records.specs.Inner.{Ready, Closes};
-
-// The input that stands for gate 0: an event's input is its number, and a gate's is its number with this added.
-pub const GATES_FROM: u16 = 256;
-
-// What a call answers. `specs/Answers.antt` gives each case the paper's number and place.
-pub enum Answer {
-    Done,
-    Cut(usize),
-    UnknownKind(usize),
-    OutOfPlace(usize),
-    Count(usize),
-    Threshold(usize),
-    Reference(usize),
-    Chance(usize),
-    Unused(usize),
-    Room,
-}
 
 // An event of a tree, its chance in billionths.
 pub struct Event {
@@ -139,40 +121,5 @@ pub fn read(bytes: &[u8]) -> Reading
             Step::Close => return finish(t, places, s),
             Step::Refused(a) => return refused(a),
         }
-    }
-}
-
-// The paper's number and place of an answer.
-pub fn number(a: Answer) -> u8
-    ensures { λ r. ⌜ r ≡ verdict a .number ⌝ }
-{
-    match a {
-        Answer::Done => 0,
-        Answer::Cut(_) => 1,
-        Answer::UnknownKind(_) => 2,
-        Answer::OutOfPlace(_) => 3,
-        Answer::Count(_) => 4,
-        Answer::Threshold(_) => 5,
-        Answer::Reference(_) => 6,
-        Answer::Chance(_) => 7,
-        Answer::Unused(_) => 8,
-        Answer::Room => 9,
-    }
-}
-
-pub fn place(a: Answer) -> usize
-    ensures { λ r. ⌜ r ≡ verdict a .place ⌝ }
-{
-    match a {
-        Answer::Done => 0,
-        Answer::Cut(p) => p,
-        Answer::UnknownKind(p) => p,
-        Answer::OutOfPlace(p) => p,
-        Answer::Count(p) => p,
-        Answer::Threshold(p) => p,
-        Answer::Reference(p) => p,
-        Answer::Chance(p) => p,
-        Answer::Unused(p) => p,
-        Answer::Room => 0,
     }
 }

@@ -1,9 +1,9 @@
 // The search for an item that is an input nowhere: the paper's number 8.
-use crate::GATES_FROM;
-use crate::format::length as length_of;
-use crate::judge::State;
 use paper::GATES;
 use paper::IN_ALL;
+use rules::GATES_FROM;
+use rules::format::length as length_of;
+use rules::judge::State;
 ghost use mathlib.Core.Path.{_≡_};
 ghost use Prim.Native.Nat.{_+_, _≤_};
 ghost use lib.ListN.{length};

@@ -5,8 +5,8 @@ use mathlib.Core.List.{List, [], _∷_, _++_, map}
 use Prim.Native.Nat.{ℕ}
 use Rattle.paper.specs.Limits.{limits}
 use Rattle.paper.specs.Answers.{Verdict}
-use Rattle.records.specs.Format.{recordOf, bodyOf}
-use Rattle.records.specs.Rules.{stepOf}
+use Rattle.rules.specs.Format.{recordOf, bodyOf}
+use Rattle.rules.specs.Rules.{stepOf}
 use Rattle.records.specs.Uses.{among, lowestUnused, unusedOf}
 use Rattle.records.specs.Judge.{judge, outcome, run, closeOf}
 

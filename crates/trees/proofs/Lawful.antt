@@ -15,12 +15,12 @@ use Rattle.paper.specs.Lists.{sum}
 use Rattle.paper.specs.Trees.{Input, event, Gate, events, InputBelow, InputsBelow, GateBelow, TreeBelow}
 use Rattle.paper.specs.Flat.{gatesFrom, inputOf, gateOf, gatesOf}
 use Rattle.records.specs.Uses.{among, lowestUnused, unusedOf}
-use Rattle.records.specs.Rules.{wrongK}
+use Rattle.rules.specs.Rules.{wrongK, Fits}
 use Rattle.records.specs.Judge.{Book, accept, outcome}
-use Rattle.records.specs.Trees.{Fits, Lawful, treeOf, InputLower, InputsLower, GateLower, TreeLower}
+use Rattle.records.specs.Trees.{Lawful, treeOf, InputLower, InputsLower, GateLower, TreeLower}
 use Rattle.records.specs.declared.uses.Found.{Found}
 use Rattle.records.specs.declared.uses.Found.the-variants.{At, Nothing}
-use Rattle.records.proofs.Cases.{if-elim, either}
+use Rattle.rules.proofs.Cases.{if-elim, either}
 use Rattle.records.proofs.Sums.{sum-take, sum-rises}
 use Rattle.records.proofs.Runs.{Closed, accepted-keeps}
 

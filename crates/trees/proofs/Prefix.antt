@@ -10,16 +10,16 @@ use lib.Seq.{getD-drop, getD-take, length-take-le, take-all}
 use lib.Dec.{ltb}
 use borrow.Author.Tests.{lt-ltb, le-ltb, ne-eqb, ltb-true, ltb-false}
 use Rattle.paper.specs.Limits.{limits}
-use Rattle.records.specs.Format.{byte, lengthOf, bodyOf, recordOf}
-use Rattle.records.specs.Rules.{admitOf, stepOf}
+use Rattle.rules.specs.Format.{byte, lengthOf, bodyOf, recordOf}
+use Rattle.rules.specs.Rules.{admitOf, stepOf}
 use Rattle.records.specs.Judge.{Book, start, counts, addEvent, addGate, addInput, run, outcome, judge}
-use Rattle.records.specs.declared.format.Record.{Record}
-use Rattle.records.specs.declared.format.Record.the-variants.{Missing, Unknown, Short, Event, Gate, EventInput, GateInput, End}
-use Rattle.records.specs.declared.judge.State.{State}
-use Rattle.records.specs.declared.judge.Step.{Step}
-use Rattle.records.specs.declared.judge.Step.the-variants.{AddEvent, AddGate, AddInput, Close, Refused}
-use Rattle.records.proofs.Cases.{either, front, known, length-small}
-use Rattle.records.proofs.Steps.{Sound, sound-step}
+use Rattle.rules.specs.declared.format.Record.{Record}
+use Rattle.rules.specs.declared.format.Record.the-variants.{Missing, Unknown, Short, Event, Gate, EventInput, GateInput, End}
+use Rattle.rules.specs.declared.judge.State.{State}
+use Rattle.rules.specs.declared.judge.Step.{Step}
+use Rattle.rules.specs.declared.judge.Step.the-variants.{AddEvent, AddGate, AddInput, Close, Refused}
+use Rattle.rules.proofs.Cases.{either, front, known, length-small}
+use Rattle.rules.proofs.Steps.{Sound, sound-step}
 use Rattle.records.proofs.Keeping.{Kept, kept-start, kept-event, kept-gate, kept-input, kept-near}
 use Rattle.records.proofs.Runs.{run-event, run-gate, run-input, run-close, run-refused}
 

@@ -10,22 +10,22 @@ use lib.Seq.{take-at}
 use lib.Dec.{ltb}
 use borrow.Author.Tests.{ltb-true, ltb-false}
 use Rattle.paper.specs.Limits.{limits}
-use Rattle.records.specs.Format.{recordOf}
-use Rattle.records.specs.Rules.{stepOf}
+use Rattle.rules.specs.Format.{recordOf}
+use Rattle.rules.specs.Rules.{stepOf}
 use Rattle.records.specs.Judge.{Book, start, counts, addEvent, addGate, addInput, Outcome, accept, refuse, unusedBy, closeOf, run, outcome}
 use Rattle.records.specs.Memory.{memory, inMemory}
 use Rattle.writing.specs.Bytes.{bytesOf, told, Wrote, wrote, writeOf}
 use Rattle.records.specs.Trees.{Lawful}
-use Rattle.records.specs.declared.Answer.{Answer}
-use Rattle.records.specs.declared.Answer.the-variants.{Done, Cut, Unused, Room}
+use Rattle.rules.specs.declared.Answer.{Answer}
+use Rattle.rules.specs.declared.Answer.the-variants.{Done, Cut, Unused, Room}
 use Rattle.records.specs.declared.Reading.{Reading}
 use Rattle.records.specs.declared.Tree.{Tree}
-use Rattle.records.specs.declared.judge.Step.{Step}
-use Rattle.records.specs.declared.judge.Step.the-variants.{AddEvent, AddGate, AddInput, Close, Refused}
+use Rattle.rules.specs.declared.judge.Step.{Step}
+use Rattle.rules.specs.declared.judge.Step.the-variants.{AddEvent, AddGate, AddInput, Close, Refused}
 use Rattle.records.specs.declared.uses.Found.{Found}
 use Rattle.records.specs.declared.uses.Found.the-variants.{At, Nothing}
-use Rattle.records.proofs.Cases.{either}
-use Rattle.records.proofs.Steps.{Sound, sound-step}
+use Rattle.rules.proofs.Cases.{either}
+use Rattle.rules.proofs.Steps.{Sound, sound-step}
 use Rattle.records.proofs.Runs.{run-event, run-gate, run-input, run-close, run-refused}
 use Rattle.trees.proofs.Lawful.{lawful}
 use Rattle.trees.proofs.Longest.{longest}

@@ -6,13 +6,13 @@ use Prim.Native.Nat.{ℕ, _+_, _-_, _*_, _/_, _%_, _≤_, _<_}
 use native.Mathlib.Omega.{arith}
 use lib.ListN.{length, getD, drop}
 use borrow.Author.Tests.{lt-ltb, le-ltb}
-use Rattle.records.specs.Format.{byte, recordOf, widthOf, encode}
+use Rattle.rules.specs.Format.{byte, recordOf, widthOf, encode}
 use Rattle.paper.specs.Flat.{gatesFrom}
 use Rattle.writing.specs.Bytes.{inputRecord, gateRecord}
-use Rattle.records.specs.declared.format.Record.{Record}
-use Rattle.records.specs.declared.format.Record.the-variants.{Missing, Unknown, Short, Event, Gate, EventInput, GateInput, End}
-use Rattle.records.proofs.Cases.{front, known}
-use Rattle.records.proofs.Steps.{codeOf, IsInput}
+use Rattle.rules.specs.declared.format.Record.{Record}
+use Rattle.rules.specs.declared.format.Record.the-variants.{Missing, Unknown, Short, Event, Gate, EventInput, GateInput, End}
+use Rattle.rules.proofs.Cases.{front, known}
+use Rattle.rules.proofs.Steps.{codeOf, IsInput}
 
 split1 : (l : List ℕ) → 1 ≤ length l → l ≡ byte l 0 ∷ drop 1 l
 split1 [] h = absurd (omega arith)

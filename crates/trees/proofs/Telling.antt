@@ -14,10 +14,10 @@ use Rattle.records.specs.Judge.{Book, start, _▷_, addEvent, addGate, addInput
 use Rattle.records.specs.Memory.{pad, tabulate, noEvent, memory}
 use Rattle.writing.specs.Bytes.{chanceAt, toldLeast, told}
 use Rattle.records.specs.declared.Tree.{Tree}
-use Rattle.records.specs.declared.format.Record.{Record}
-use Rattle.records.specs.declared.format.Record.the-variants.{Event}
-use Rattle.records.proofs.Cases.{if-elim}
-use Rattle.records.proofs.Steps.{codeOf}
+use Rattle.rules.specs.declared.format.Record.{Record}
+use Rattle.rules.specs.declared.format.Record.the-variants.{Event}
+use Rattle.rules.proofs.Cases.{if-elim}
+use Rattle.rules.proofs.Steps.{codeOf}
 use Rattle.records.proofs.Pad.{length-▷, tabulate-▷}
 use Rattle.writing.proofs.Rest.{eventRecord, inputRecordAt}
 

@@ -9,12 +9,12 @@ use lib.ListN.{length}
 use lib.Dec.{eqb}
 use lib.Seq.{drop-drop, drop-at}
 use lib.ListN.{drop}
-use Rattle.records.specs.Choice.{if_then_else_}
-use Rattle.records.specs.Format.{lengthOf, bodyOf, recordOf, widthOf, encode}
+use Rattle.rules.specs.Choice.{if_then_else_}
+use Rattle.rules.specs.Format.{lengthOf, bodyOf, recordOf, widthOf, encode}
 use Rattle.writing.specs.Inner.{Own}
-use Rattle.records.specs.declared.format.Record.{Record}
-use Rattle.records.specs.declared.format.Record.the-variants.{Missing, Unknown, Short, Event, Gate, EventInput, GateInput, End}
-use Rattle.records.proofs.Cases.{is-unknown, is-whole}
+use Rattle.rules.specs.declared.format.Record.{Record}
+use Rattle.rules.specs.declared.format.Record.the-variants.{Missing, Unknown, Short, Event, Gate, EventInput, GateInput, End}
+use Rattle.rules.proofs.Cases.{is-unknown, is-whole}
 
 -- the record of kind k, which is known and whose bytes are there
 whole : (b : List ℕ) (k : ℕ) → 1 ≤ lengthOf k → lengthOf k ≤ length (k ∷ b) → recordOf (k ∷ b) ≡ bodyOf k (k ∷ b)

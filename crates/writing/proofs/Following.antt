@@ -8,17 +8,17 @@ use lib.ListN.{length, getD, drop, length-drop, length-append}
 use lib.Dec.{ltb}
 use borrow.Author.Tests.{ltb-false, lt-ltb, le-ltb}
 use Rattle.paper.specs.Limits.{limits}
-use Rattle.records.specs.Format.{recordOf, widthOf, encode}
-use Rattle.records.specs.Rules.{admitOf, stepOf}
-use Rattle.records.specs.Judge.{pastEvent, pastGate, pastInput}
+use Rattle.rules.specs.Format.{recordOf, widthOf, encode}
+use Rattle.rules.specs.Rules.{admitOf, stepOf}
+use Rattle.rules.specs.States.{pastEvent, pastGate, pastInput}
 use Rattle.writing.specs.Bytes.{inputBytes, gateBytes, eventBytes, bytesOf, chanceAt, nextOf}
 use Rattle.writing.specs.Inner.{Own, Within}
-use Rattle.records.specs.declared.format.Record.{Record}
-use Rattle.records.specs.declared.format.Record.the-variants.{Missing, Unknown, Short, Event, Gate, EventInput, GateInput, End}
-use Rattle.records.specs.declared.judge.State.{State}
+use Rattle.rules.specs.declared.format.Record.{Record}
+use Rattle.rules.specs.declared.format.Record.the-variants.{Missing, Unknown, Short, Event, Gate, EventInput, GateInput, End}
+use Rattle.rules.specs.declared.judge.State.{State}
 use Rattle.records.specs.declared.Tree.{Tree}
-use Rattle.records.proofs.Cases.{if-elim, ≤-or, gate-small}
-use Rattle.records.proofs.Steps.{OnEvent, OnGate, OnInput, input-small}
+use Rattle.rules.proofs.Cases.{if-elim, ≤-or, gate-small}
+use Rattle.rules.proofs.Steps.{OnEvent, OnGate, OnInput, input-small}
 use Rattle.writing.proofs.Coding.{own-end, encode-width, cut}
 use Rattle.writing.proofs.Rest.{next-within, eventRecord, gateRecordAt, inputRecordAt, nextRecord, restAt, rest-event, rest-input, rest-gate, rest-end, tag, which, is-event, is-gate, is-end, gate-told}
 

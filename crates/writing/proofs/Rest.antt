@@ -7,16 +7,16 @@ use native.Mathlib.Omega.{arith}
 use lib.ListN.{getD}
 use lib.Dec.{ltb, eqb}
 use borrow.Author.Tests.{ltb-true, ltb-false, lt-ltb, le-ltb, eqb-true}
-use Rattle.records.specs.Choice.{if_then_else_}
+use Rattle.rules.specs.Choice.{if_then_else_}
 use Rattle.paper.specs.Limits.{limits}
-use Rattle.records.specs.Format.{encode}
+use Rattle.rules.specs.Format.{encode}
 use Rattle.writing.specs.Bytes.{eventAt, gateAt, inputAt, chanceAt, laterOf, nextOf, inputBytes, gateBytes, eventBytes, toldLeast}
 use Rattle.writing.specs.Inner.{Within}
-use Rattle.records.specs.declared.format.Record.{Record}
-use Rattle.records.specs.declared.format.Record.the-variants.{Missing, Unknown, Short, Event, Gate, EventInput, GateInput, End}
-use Rattle.records.specs.declared.judge.State.{State}
+use Rattle.rules.specs.declared.format.Record.{Record}
+use Rattle.rules.specs.declared.format.Record.the-variants.{Missing, Unknown, Short, Event, Gate, EventInput, GateInput, End}
+use Rattle.rules.specs.declared.judge.State.{State}
 use Rattle.records.specs.declared.Tree.{Tree}
-use Rattle.records.proofs.Cases.{if-elim, either}
+use Rattle.rules.proofs.Cases.{if-elim, either}
 
 -- the records of event e, of gate g and of input i of a tree, and the one that comes next
 abbrev pub eventRecord : Tree → ℕ → Record

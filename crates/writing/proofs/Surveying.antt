@@ -6,25 +6,26 @@ use Prim.Native.Nat.{ℕ, _+_}
 use native.Mathlib.Omega.{arith}
 use lib.ListN.{length, set}
 use Rattle.paper.specs.Limits.{limits}
-use Rattle.records.specs.Format.{widthOf}
-use Rattle.records.specs.Rules.{admitOf, stepOf}
-use Rattle.records.specs.Judge.{Book, start, counts, pastEvent, pastGate, pastInput, outcome, closeOf, accept, refuse, answerOf, unusedBy}
+use Rattle.rules.specs.Format.{widthOf}
+use Rattle.rules.specs.Rules.{admitOf, stepOf}
+use Rattle.records.specs.Judge.{Book, start, counts, outcome, closeOf, accept, refuse, answerOf, unusedBy}
+use Rattle.rules.specs.States.{pastEvent, pastGate, pastInput}
 use Rattle.records.specs.Memory.{pad}
 use Rattle.writing.specs.Bytes.{bytesOf}
 use Rattle.records.specs.Inner.{Fronts, Ready, Seeks}
 use Rattle.writing.specs.Inner.{Own, Sized, Surveyed}
-use Rattle.records.specs.declared.Answer.{Answer}
-use Rattle.records.specs.declared.Answer.the-variants.{Done, Unused}
+use Rattle.rules.specs.declared.Answer.{Answer}
+use Rattle.rules.specs.declared.Answer.the-variants.{Done, Unused}
 use Rattle.records.specs.declared.Tree.{Tree}
-use Rattle.records.specs.declared.format.Record.{Record}
-use Rattle.records.specs.declared.judge.State.{State}
-use Rattle.records.specs.declared.judge.Step.{Step}
-use Rattle.records.specs.declared.judge.Step.the-variants.{AddEvent, AddGate, AddInput, Close, Refused}
+use Rattle.rules.specs.declared.format.Record.{Record}
+use Rattle.rules.specs.declared.judge.State.{State}
+use Rattle.rules.specs.declared.judge.Step.{Step}
+use Rattle.rules.specs.declared.judge.Step.the-variants.{AddEvent, AddGate, AddInput, Close, Refused}
 use Rattle.records.specs.declared.uses.Found.{Found}
 use Rattle.records.specs.declared.uses.Found.the-variants.{At, Nothing}
 use Rattle.records.proofs.Closing.{closes-at, closes-none}
 use Rattle.records.proofs.Standing.{Arrays, arrays-event, arrays-gate, arrays-input, arrays-fronts}
-use Rattle.records.proofs.Steps.{Sound}
+use Rattle.rules.proofs.Steps.{Sound}
 use Rattle.records.proofs.Runs.{Running, running-start, running-sound, running-event, running-gate, running-input, running-close, running-refused}
 use Rattle.writing.proofs.Rest.{nextRecord}
 use Rattle.writing.proofs.Following.{Following, follow-start, follow-step, follow-event, follow-gate, follow-input, read-back, end-length}

@@ -7,12 +7,12 @@ use lib.ListN.{length, drop}
 use native.Mathlib.Omega.{arith}
 use borrow.Author.Tests.{lt-ltb, le-ltb}
 use Rattle.paper.specs.Limits.{limits}
-use Rattle.records.specs.Answers.{verdict}
+use Rattle.rules.specs.Answers.{verdict}
 use Rattle.records.specs.Judge.{Outcome, accept, refuse, answerOf, outcome}
 use Rattle.writing.specs.Bytes.{bytesOf, writeOf, wrote}
 use Rattle.writing.specs.Inner.{Accepted, Surveyed}
-use Rattle.records.specs.declared.Answer.{Answer}
-use Rattle.records.specs.declared.Answer.the-variants.{Done, Cut, UnknownKind, OutOfPlace, Count, Threshold, Reference, Chance, Unused, Room}
+use Rattle.rules.specs.declared.Answer.{Answer}
+use Rattle.rules.specs.declared.Answer.the-variants.{Done, Cut, UnknownKind, OutOfPlace, Count, Threshold, Reference, Chance, Unused, Room}
 use Rattle.records.specs.declared.Tree.{Tree}
 
 done-is : (a : Answer) → verdict a .number ≡ 0 → a ≡ Done

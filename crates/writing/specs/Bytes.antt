@@ -5,16 +5,16 @@ use lib.ListN.{length, getD, drop}
 use lib.Dec.{ltb, eqb}
 use Rattle.paper.specs.Limits.{Limits, limits}
 use Rattle.paper.specs.Lists.{sum}
-use Rattle.records.specs.Choice.{if_then_else_}
-use Rattle.records.specs.Format.{encode}
+use Rattle.rules.specs.Choice.{if_then_else_}
+use Rattle.rules.specs.Format.{encode}
 use Rattle.paper.specs.Flat.{gatesFrom}
 use Rattle.records.specs.Judge.{accept, refuse, outcome}
 use Rattle.records.specs.Memory.{pad, tabulate, noEvent}
-use Rattle.records.specs.declared.Answer.{Answer}
-use Rattle.records.specs.declared.Answer.the-variants.{Done, Room}
-use Rattle.records.specs.declared.format.Record.{Record}
-use Rattle.records.specs.declared.format.Record.the-variants.{Unknown, Event, Gate, EventInput, GateInput, End}
-use Rattle.records.specs.declared.judge.State.{State}
+use Rattle.rules.specs.declared.Answer.{Answer}
+use Rattle.rules.specs.declared.Answer.the-variants.{Done, Room}
+use Rattle.rules.specs.declared.format.Record.{Record}
+use Rattle.rules.specs.declared.format.Record.the-variants.{Unknown, Event, Gate, EventInput, GateInput, End}
+use Rattle.rules.specs.declared.judge.State.{State}
 use Rattle.records.specs.declared.Tree.{Tree}
 
 abbrev pub inputRecord : ℕ → Record

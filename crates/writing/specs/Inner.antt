@@ -4,13 +4,13 @@ use mathlib.Core.Path.{_≡_}
 use mathlib.Core.List.{List, _++_}
 use lib.ListN.{length}
 use Rattle.paper.specs.Limits.{limits}
-use Rattle.records.specs.Format.{recordOf, encode}
+use Rattle.rules.specs.Format.{recordOf, encode}
 use Rattle.records.specs.Judge.{Book, accept, answerOf, outcome}
 use Rattle.writing.specs.Bytes.{bytesOf}
-use Rattle.records.specs.declared.Answer.{Answer}
-use Rattle.records.specs.declared.Answer.the-variants.{Done, Unused}
+use Rattle.rules.specs.declared.Answer.{Answer}
+use Rattle.rules.specs.declared.Answer.the-variants.{Done, Unused}
 use Rattle.records.specs.declared.Tree.{Tree}
-use Rattle.records.specs.declared.format.Record.{Record}
+use Rattle.rules.specs.declared.format.Record.{Record}
 use Rattle.records.specs.declared.uses.Found.{Found}
 use Rattle.records.specs.declared.uses.Found.the-variants.{At, Nothing}
 

@@ -2,19 +2,19 @@
 use crate::survey::tree_record;
 use crate::survey::within;
 use records::Tree;
-use records::format::Record;
-use records::format::width;
-use records::judge::Step;
-use records::judge::admit;
-use records::judge::begin;
-use records::judge::past_event;
-use records::judge::past_gate;
-use records::judge::past_input;
+use rules::format::Record;
+use rules::format::width;
+use rules::judge::Step;
+use rules::judge::admit;
+use rules::judge::begin;
+use rules::judge::past_event;
+use rules::judge::past_gate;
+use rules::judge::past_input;
 ghost use mathlib.Core.Path.{_≡_};
 ghost use mathlib.Core.List.{_++_};
 ghost use Prim.Native.Nat.{_≤_};
 ghost use lib.ListN.{length, drop};
-ghost use Rattle.records.specs.Format.{widthOf, encode};
+ghost use Rattle.rules.specs.Format.{widthOf, encode};
 ghost use Rattle.writing.specs.Bytes.{bytesOf};
 ghost use Rattle.writing.specs.Inner.{Accepted};
 

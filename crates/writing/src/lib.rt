@@ -3,9 +3,9 @@ mod emission; // a tree's records, written
 mod survey; // a tree in memory, judged as its bytes would be
 
 use emission::emit;
-use records::Answer;
 use records::Tree;
-use records::number;
+use rules::Answer;
+use rules::number;
 use survey::survey;
 ghost use mathlib.Core.Path.{_≡_};
 ghost use Rattle.paper.specs.Limits.{limits};

@@ -6,7 +6,7 @@ use native.Mathlib.Omega.{arith}
 use denote.Ref.{now}
 use lib.ListN.{length}
 use Rattle.writing.specs.Bytes.{bytesOf}
-use Rattle.records.proofs.Cases.{width-small}
+use Rattle.rules.proofs.Cases.{width-small}
 use Rattle.records.proofs.Runs.{running-bounded}
 use Rattle.writing.proofs.Following.{next-is}
 use Rattle.writing.proofs.Emitting.{Emitting, emit-start, emit-inside, emit-room, emit-sound, emit-event, emit-gate, emit-input, emit-done, emit-never, emit-same}

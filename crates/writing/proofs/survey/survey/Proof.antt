@@ -6,7 +6,7 @@ use native.Mathlib.Omega.{arith}
 use lib.ListN.{length}
 use Rattle.records.specs.Memory.{pad}
 use Rattle.writing.specs.Bytes.{bytesOf}
-use Rattle.records.proofs.Cases.{width-small}
+use Rattle.rules.proofs.Cases.{width-small}
 use Rattle.records.proofs.Runs.{running-bounded}
 use Rattle.writing.proofs.Following.{next-is}
 use Rattle.writing.proofs.Surveying.{Surveying, survey-start, survey-sound, survey-event, survey-gate, survey-input, survey-ready, survey-close, survey-refused}

@@ -1,0 +1,65 @@
+-- The records of a tree: what record stands at the front of some bytes, and a record's bytes.
+use Prim.Native.Nat.{ℕ, _+_, _*_, _/_, _%_}
+use mathlib.Core.List.{List, [], _∷_}
+use lib.ListN.{length, getD}
+use lib.Dec.{ltb, eqb}
+use Rattle.rules.specs.Choice.{if_then_else_}
+use Rattle.rules.specs.declared.format.Record.{Record}
+use Rattle.rules.specs.declared.format.Record.the-variants.{Missing, Unknown, Short, Event, Gate, EventInput, GateInput, End}
+
+-- byte i of b
+abbrev pub byte : List ℕ → ℕ → ℕ
+byte b i = getD b i 0
+
+-- how many bytes a record of a kind takes, the kind's among them; 0 for a kind that no record has
+abbrev pub lengthOf : ℕ → ℕ
+lengthOf kind =
+    if eqb kind 1 then 5 else
+    if eqb kind 2 then 2 else
+    if eqb kind 3 then 2 else
+    if eqb kind 4 then 3 else
+    if eqb kind 5 then 2 else
+    if eqb kind 6 then 3 else
+    if eqb kind 7 then 1 else
+    0
+
+-- the record of a kind, from its bytes
+unfoldable pub bodyOf : ℕ → List ℕ → Record
+bodyOf kind b =
+    if eqb kind 1 then Event (byte b 1 + 256 * (byte b 2 + 256 * (byte b 3 + 256 * byte b 4))) else
+    if eqb kind 2 then Gate 2 0 (byte b 1) else
+    if eqb kind 3 then Gate 3 0 (byte b 1) else
+    if eqb kind 4 then Gate 4 (byte b 1) (byte b 2) else
+    if eqb kind 5 then EventInput (byte b 1) else
+    if eqb kind 6 then GateInput (byte b 1 + 256 * byte b 2) else
+    End
+
+-- the record at the front of b: an unknown kind (2) comes before bytes that end inside the record (1)
+unfoldable pub recordOf : List ℕ → Record
+recordOf b =
+    if eqb (length b) 0 then Missing else
+    if eqb (lengthOf (byte b 0)) 0 then Unknown else
+    if ltb (length b) (lengthOf (byte b 0)) then Short else
+    bodyOf (byte b 0) b
+
+-- how many bytes a record takes
+abbrev pub widthOf : Record → ℕ
+widthOf Missing = 0
+widthOf Unknown = 1
+widthOf Short = 0
+widthOf (Event c) = lengthOf 1
+widthOf (Gate kind k n) = if eqb kind 4 then lengthOf 4 else lengthOf 2
+widthOf (EventInput e) = lengthOf 5
+widthOf (GateInput g) = lengthOf 6
+widthOf End = lengthOf 7
+
+-- the bytes of a record; of a gate of no kind, a byte of no kind
+abbrev pub encode : Record → List ℕ
+encode Missing = []
+encode Short = []
+encode Unknown = 0 ∷ []
+encode (Event c) = 1 ∷ c % 256 ∷ c / 256 % 256 ∷ c / 65536 % 256 ∷ c / 16777216 ∷ []
+encode (Gate kind k n) = if eqb kind 4 then (4 ∷ k ∷ n ∷ []) else (kind ∷ n ∷ [])
+encode (EventInput e) = 5 ∷ e ∷ []
+encode (GateInput g) = 6 ∷ g % 256 ∷ g / 256 ∷ []
+encode End = 7 ∷ []

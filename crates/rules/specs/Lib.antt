@@ -1,0 +1,5 @@
+pub mod Choice
+pub mod Answers
+pub mod Format
+pub mod States
+pub mod Rules
