@@ -8,7 +8,7 @@ use mir.Val.{boolByte}
 use borrow.Author.Tests.{eq-eqb, ne-eqb}
 use Rattle.paper.specs.Limits.{limits}
 use Rattle.rules.specs.Answers.{verdict}
-use Rattle.writing.specs.Bytes.{Wrote, wrote, writeOf}
+use Rattle.writing.specs.Writes.{Wrote, wrote, writeOf}
 use Rattle.records.specs.Judge.{outcome}
 use Rattle.records.specs.Memory.{inMemory}
 use Rattle.rules.specs.declared.Answer.{Answer}

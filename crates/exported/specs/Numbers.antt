@@ -5,7 +5,7 @@ use mathlib.Core.List.{List, [], _∷_}
 use Prim.Native.Nat.{ℕ}
 use lib.ListN.{getD}
 use Rattle.rules.specs.Answers.{verdict}
-use Rattle.writing.specs.Bytes.{Wrote}
+use Rattle.writing.specs.Writes.{Wrote}
 use Rattle.records.specs.declared.Reading.{Reading}
 use Rattle.listing.specs.declared.Listed.{Listed}
 use Rattle.bracket.specs.declared.Ends.{Ends}

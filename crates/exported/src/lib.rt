@@ -9,7 +9,7 @@ ghost use mathlib.Core.Path.{_≡_};
 ghost use Rattle.paper.specs.Limits.{limits};
 ghost use Rattle.records.specs.Judge.{outcome};
 ghost use Rattle.records.specs.Memory.{inMemory};
-ghost use Rattle.writing.specs.Bytes.{writeOf};
+ghost use Rattle.writing.specs.Writes.{writeOf};
 ghost use Rattle.listing.specs.Answers.{Answered};
 ghost use Rattle.listing.specs.declared.Listed.{Listed};
 ghost use Rattle.bracket.specs.Bracketed.{Bracketed};

@@ -1,27 +1,16 @@
 // Writing: a tree in memory judged as its bytes would be, and its records put into a lent room.
 mod emission; // a tree's records, written
-mod survey; // a tree in memory, judged as its bytes would be
 
 use emission::emit;
 use records::Tree;
 use rules::Answer;
 use rules::number;
+use survey::Written;
 use survey::survey;
+use survey::unwritten;
 ghost use mathlib.Core.Path.{_≡_};
 ghost use Rattle.paper.specs.Limits.{limits};
-ghost use Rattle.writing.specs.Bytes.{writeOf, wrote};
-
-// What writing answers: the bytes are 0 in a refusal.
-pub struct Written {
-    pub answer: Answer,
-    pub bytes: usize,
-}
-
-fn unwritten(answer: Answer) -> Written
-    ensures { λ r. ⌜ (r .answer ≡ answer) × (r .bytes ≡ 0) ⌝ }
-{
-    Written { answer, bytes: 0 }
-}
+ghost use Rattle.writing.specs.Writes.{writeOf, wrote};
 
 // Writes a tree to the front of room: answered as its bytes would be, then Room where they do not fit. A refusal writes
 // nothing, and the room behind the bytes stays.

@@ -10,24 +10,24 @@ use borrow.Author.Tests.{ltb-false, lt-ltb, le-ltb}
 use Rattle.paper.specs.Limits.{limits}
 use Rattle.rules.specs.Format.{recordOf, widthOf, encode}
 use Rattle.rules.specs.Rules.{admitOf, stepOf}
-use Rattle.rules.specs.States.{pastEvent, pastGate, pastInput}
-use Rattle.writing.specs.Bytes.{inputBytes, gateBytes, eventBytes, bytesOf, chanceAt, nextOf}
-use Rattle.writing.specs.Inner.{Own, Within}
+use Rattle.rules.specs.States.{begun, pastEvent, pastGate, pastInput}
+use Rattle.survey.specs.Bytes.{inputBytes, gateBytes, eventBytes, bytesOf, chanceAt, nextOf}
+use Rattle.survey.specs.Inner.{Own, Within}
 use Rattle.rules.specs.declared.format.Record.{Record}
 use Rattle.rules.specs.declared.format.Record.the-variants.{Missing, Unknown, Short, Event, Gate, EventInput, GateInput, End}
 use Rattle.rules.specs.declared.judge.State.{State}
 use Rattle.records.specs.declared.Tree.{Tree}
 use Rattle.rules.proofs.Cases.{if-elim, ≤-or, gate-small}
 use Rattle.rules.proofs.Steps.{OnEvent, OnGate, OnInput, input-small}
-use Rattle.writing.proofs.Coding.{own-end, encode-width, cut}
-use Rattle.writing.proofs.Rest.{next-within, eventRecord, gateRecordAt, inputRecordAt, nextRecord, restAt, rest-event, rest-input, rest-gate, rest-end, tag, which, is-event, is-gate, is-end, gate-told}
+use Rattle.survey.proofs.Coding.{own-end, encode-width, cut}
+use Rattle.survey.proofs.Rest.{next-within, eventRecord, gateRecordAt, inputRecordAt, nextRecord, restAt, rest-event, rest-input, rest-gate, rest-end, tag, which, is-event, is-gate, is-end, gate-told}
 
 pub record Following (t : Tree) (bytes : List ℕ) (s : State) : Type 0 where
   pub rest : drop (s .at) bytes ≡ restAt t (s .events) (s .gates) (s .inputs) (s .left)
   pub early : s .events < t .«event_count» → (s .gates ≡ 0) × (s .inputs ≡ 0) × (s .left ≡ 0)
   pub low : s .at ≤ 5 * s .events + 3 * s .gates + 3 * s .inputs
 
-pub follow-start : (t : Tree) → Following t (bytesOf t) (record { at = 0; events = 0; gates = 0; inputs = 0; left = 0 })
+pub follow-start : (t : Tree) → Following t (bytesOf t) begun
 unfolding bytesOf restAt eventBytes inputBytes gateBytes
 follow-start t = record {
   rest =

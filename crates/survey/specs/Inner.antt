@@ -6,7 +6,7 @@ use lib.ListN.{length}
 use Rattle.paper.specs.Limits.{limits}
 use Rattle.rules.specs.Format.{recordOf, encode}
 use Rattle.records.specs.Judge.{Book, accept, answerOf, outcome}
-use Rattle.writing.specs.Bytes.{bytesOf}
+use Rattle.survey.specs.Bytes.{bytesOf}
 use Rattle.rules.specs.declared.Answer.{Answer}
 use Rattle.rules.specs.declared.Answer.the-variants.{Done, Unused}
 use Rattle.records.specs.declared.Tree.{Tree}

@@ -1,10 +1,10 @@
--- `writing::survey::tree_record` meets its contract.
+-- `survey::tree_record` meets its contract.
 -- Assumes nothing.
 use borrow.Author.Needs.{needs}
 use borrow.Author.Tests.{lt-ltb, le-ltb}
-use Rattle.writing.proofs.Coding.{own-end, own-event, own-and}
-use Rattle.writing.proofs.survey.tree_record.Statement.{statement}
-use Rattle.writing.proofs.survey.tree_record.Tie as tie
+use Rattle.survey.proofs.Coding.{own-end, own-event, own-and}
+use Rattle.survey.proofs.tree_record.Statement.{statement}
+use Rattle.survey.proofs.tree_record.Tie as tie
 
 returns : tie.Need-returns
 returns c = (simp (lt-ltb _ _ (c .before .before .if1 .taken), lt-ltb _ _ (c .if2 .taken)), own-event _)

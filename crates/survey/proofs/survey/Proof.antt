@@ -1,18 +1,18 @@
--- `writing::survey::survey` meets its contract.
+-- `survey::survey` meets its contract.
 -- Assumes nothing.
 use mathlib.Core.Path.{sym, _∙_}
 use Prim.Native.Nat.{_-_}
 use native.Mathlib.Omega.{arith}
 use lib.ListN.{length}
 use Rattle.records.specs.Memory.{pad}
-use Rattle.writing.specs.Bytes.{bytesOf}
+use Rattle.survey.specs.Bytes.{bytesOf}
 use Rattle.rules.proofs.Cases.{width-small}
 use Rattle.records.proofs.Runs.{running-bounded}
-use Rattle.writing.proofs.Following.{next-is}
-use Rattle.writing.proofs.Surveying.{Surveying, survey-start, survey-sound, survey-event, survey-gate, survey-input, survey-ready, survey-close, survey-refused}
+use Rattle.survey.proofs.Following.{next-is}
+use Rattle.survey.proofs.Surveying.{Surveying, survey-start, survey-sound, survey-event, survey-gate, survey-input, survey-ready, survey-close, survey-refused}
 use borrow.Author.Needs.{needs}
-use Rattle.writing.proofs.survey.survey.Statement.{statement}
-use Rattle.writing.proofs.survey.survey.Tie as tie
+use Rattle.survey.proofs.survey.Statement.{statement}
+use Rattle.survey.proofs.survey.Tie as tie
 
 abbrev Inv-loop : tie.InvT-loop
 Inv-loop t sizes₀ places₀ inputs₀ s₀ sizes places inputs s = Surveying t sizes places inputs s

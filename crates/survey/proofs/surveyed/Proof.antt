@@ -1,9 +1,9 @@
--- `writing::survey::surveyed` meets its contract.
+-- `survey::surveyed` meets its contract.
 -- Assumes nothing.
 use mathlib.Core.Path.{refl}
 use borrow.Author.Needs.{needs}
-use Rattle.writing.proofs.survey.surveyed.Statement.{statement}
-use Rattle.writing.proofs.survey.surveyed.Tie as tie
+use Rattle.survey.proofs.surveyed.Statement.{statement}
+use Rattle.survey.proofs.surveyed.Tie as tie
 
 enum-known-f : tie.Need-enum-known-f
 enum-known-f c = search needs

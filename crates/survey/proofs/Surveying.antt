@@ -11,9 +11,9 @@ use Rattle.rules.specs.Rules.{admitOf, stepOf}
 use Rattle.records.specs.Judge.{Book, start, counts, outcome, closeOf, accept, refuse, answerOf, unusedBy}
 use Rattle.rules.specs.States.{pastEvent, pastGate, pastInput}
 use Rattle.records.specs.Memory.{pad}
-use Rattle.writing.specs.Bytes.{bytesOf}
+use Rattle.survey.specs.Bytes.{bytesOf}
 use Rattle.records.specs.Inner.{Fronts, Ready, Seeks}
-use Rattle.writing.specs.Inner.{Own, Sized, Surveyed}
+use Rattle.survey.specs.Inner.{Own, Sized, Surveyed}
 use Rattle.rules.specs.declared.Answer.{Answer}
 use Rattle.rules.specs.declared.Answer.the-variants.{Done, Unused}
 use Rattle.records.specs.declared.Tree.{Tree}
@@ -27,8 +27,8 @@ use Rattle.records.proofs.Closing.{closes-at, closes-none}
 use Rattle.records.proofs.Standing.{Arrays, arrays-event, arrays-gate, arrays-input, arrays-fronts}
 use Rattle.rules.proofs.Steps.{Sound}
 use Rattle.records.proofs.Runs.{Running, running-start, running-sound, running-event, running-gate, running-input, running-close, running-refused}
-use Rattle.writing.proofs.Rest.{nextRecord}
-use Rattle.writing.proofs.Following.{Following, follow-start, follow-step, follow-event, follow-gate, follow-input, read-back, end-length}
+use Rattle.survey.proofs.Rest.{nextRecord}
+use Rattle.survey.proofs.Following.{Following, follow-start, follow-step, follow-event, follow-gate, follow-input, read-back, end-length}
 
 -- what the search leaves of the answer
 sized-answer : (b : Book) (f : Found) → f ≡ unusedBy b → (n : ℕ) (a : Answer) (m : ℕ) → Sized f n a m → a ≡ answerOf (closeOf b)

@@ -11,7 +11,7 @@ use lib.Seq.{drop-drop, drop-at}
 use lib.ListN.{drop}
 use Rattle.rules.specs.Choice.{if_then_else_}
 use Rattle.rules.specs.Format.{lengthOf, bodyOf, recordOf, widthOf, encode}
-use Rattle.writing.specs.Inner.{Own}
+use Rattle.survey.specs.Inner.{Own}
 use Rattle.rules.specs.declared.format.Record.{Record}
 use Rattle.rules.specs.declared.format.Record.the-variants.{Missing, Unknown, Short, Event, Gate, EventInput, GateInput, End}
 use Rattle.rules.proofs.Cases.{is-unknown, is-whole}

@@ -10,8 +10,8 @@ use borrow.Author.Tests.{ltb-true, ltb-false, lt-ltb, le-ltb, eqb-true}
 use Rattle.rules.specs.Choice.{if_then_else_}
 use Rattle.paper.specs.Limits.{limits}
 use Rattle.rules.specs.Format.{encode}
-use Rattle.writing.specs.Bytes.{eventAt, gateAt, inputAt, chanceAt, laterOf, nextOf, inputBytes, gateBytes, eventBytes, toldLeast}
-use Rattle.writing.specs.Inner.{Within}
+use Rattle.survey.specs.Bytes.{eventAt, gateAt, inputAt, chanceAt, laterOf, nextOf, inputBytes, gateBytes, eventBytes, toldLeast}
+use Rattle.survey.specs.Inner.{Within}
 use Rattle.rules.specs.declared.format.Record.{Record}
 use Rattle.rules.specs.declared.format.Record.the-variants.{Missing, Unknown, Short, Event, Gate, EventInput, GateInput, End}
 use Rattle.rules.specs.declared.judge.State.{State}

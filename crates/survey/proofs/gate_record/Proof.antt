@@ -1,9 +1,9 @@
--- `writing::survey::gate_record` meets its contract.
+-- `survey::gate_record` meets its contract.
 -- Assumes nothing.
 use borrow.Author.Tests.{ne-eqb}
-use Rattle.writing.proofs.Coding.{own-unknown, own-and, own-or, own-least}
-use Rattle.writing.proofs.survey.gate_record.Statement.{statement}
-use Rattle.writing.proofs.survey.gate_record.Tie as tie
+use Rattle.survey.proofs.Coding.{own-unknown, own-and, own-or, own-least}
+use Rattle.survey.proofs.gate_record.Statement.{statement}
+use Rattle.survey.proofs.gate_record.Tie as tie
 
 returns : tie.Need-returns
 returns c = (rw (c .match .keys1), own-and _)

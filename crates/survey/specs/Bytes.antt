@@ -1,17 +1,14 @@
--- The bytes of a tree in memory, whatever its fields hold, and what writing them answers.
+-- The bytes of a tree in memory, whatever its fields hold, and what they tell.
 use Prim.Native.Nat.{ℕ, zero, suc, _+_, _-_}
 use mathlib.Core.List.{List, _++_}
-use lib.ListN.{length, getD, drop}
+use lib.ListN.{getD}
 use lib.Dec.{ltb, eqb}
-use Rattle.paper.specs.Limits.{Limits, limits}
+use Rattle.paper.specs.Limits.{limits}
 use Rattle.paper.specs.Lists.{sum}
 use Rattle.rules.specs.Choice.{if_then_else_}
 use Rattle.rules.specs.Format.{encode}
 use Rattle.paper.specs.Flat.{gatesFrom}
-use Rattle.records.specs.Judge.{accept, refuse, outcome}
 use Rattle.records.specs.Memory.{pad, tabulate, noEvent}
-use Rattle.rules.specs.declared.Answer.{Answer}
-use Rattle.rules.specs.declared.Answer.the-variants.{Done, Room}
 use Rattle.rules.specs.declared.format.Record.{Record}
 use Rattle.rules.specs.declared.format.Record.the-variants.{Unknown, Event, Gate, EventInput, GateInput, End}
 use Rattle.rules.specs.declared.judge.State.{State}
@@ -73,25 +70,6 @@ eventBytes t (suc n) e = encode (eventAt (chanceAt t e) e) ++ eventBytes t n (e 
 
 unfoldable pub bytesOf : Tree → List ℕ
 bytesOf t = eventBytes t (t .«event_count») 0
-
--- what a write answers, and what the room holds next
-pub record Wrote : Type 0 where
-  pub answer : Answer
-  pub bytes : ℕ
-  pub room : List ℕ
-
-abbrev pub wrote : Answer → ℕ → List ℕ → Wrote
-wrote a n room = record { answer = a; bytes = n; room = room }
-
--- as its bytes would be answered, then Room (9) if they do not fit; room behind them stays
-unfoldable pub writeOf : Limits → Tree → List ℕ → Wrote
-writeOf L t room =
-    elim (outcome L (bytesOf t)) [
-      | accept b ↦
-          if ltb (length room) (length (bytesOf t)) then wrote Room 0 room else
-          wrote Done (length (bytesOf t)) (bytesOf t ++ drop (length (bytesOf t)) room)
-      | refuse a ↦ wrote a 0 room
-    ]
 
 -- the k that a gate's record tells: an and and an or have none
 abbrev pub toldLeast : ℕ → ℕ → ℕ

@@ -1,10 +1,10 @@
--- `writing::survey::input_record` meets its contract.
+-- `survey::input_record` meets its contract.
 -- Assumes nothing.
 use borrow.Author.Tests.{lt-ltb, le-ltb}
-use Rattle.writing.proofs.Coding.{own-event-input, own-gate-input}
+use Rattle.survey.proofs.Coding.{own-event-input, own-gate-input}
 use borrow.Author.Needs.{needs}
-use Rattle.writing.proofs.survey.input_record.Statement.{statement}
-use Rattle.writing.proofs.survey.input_record.Tie as tie
+use Rattle.survey.proofs.input_record.Statement.{statement}
+use Rattle.survey.proofs.input_record.Tie as tie
 
 cast-t3 : tie.Need-cast-t3
 cast-t3 c = search needs

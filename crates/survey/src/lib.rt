@@ -1,6 +1,4 @@
 // A tree in memory: its records one after the other, and what its bytes would be answered.
-use crate::Written;
-use crate::unwritten;
 use paper::EVENTS;
 use paper::GATES;
 use paper::IN_ALL;
@@ -20,9 +18,21 @@ use rules::judge::past_gate;
 use rules::judge::past_input;
 ghost use mathlib.Core.Path.{_≡_};
 ghost use Prim.Native.Nat.{_<_};
-ghost use Rattle.writing.specs.Bytes.{inputRecord, gateRecord, nextOf};
+ghost use Rattle.survey.specs.Bytes.{inputRecord, gateRecord, nextOf};
 ghost use Rattle.rules.specs.States.{Bounded};
-ghost use Rattle.writing.specs.Inner.{Own, Within, Surveyed, Sized};
+ghost use Rattle.survey.specs.Inner.{Own, Within, Surveyed, Sized};
+
+// What writing a tree answers: the bytes are 0 in a refusal.
+pub struct Written {
+    pub answer: Answer,
+    pub bytes: usize,
+}
+
+pub fn unwritten(answer: Answer) -> Written
+    ensures { λ r. ⌜ (r .answer ≡ answer) × (r .bytes ≡ 0) ⌝ }
+{
+    Written { answer, bytes: 0 }
+}
 
 // The record of an input.
 pub fn input_record(code: u16) -> Record

@@ -1,0 +1,4 @@
+pub mod Coding
+pub mod Rest
+pub mod Following
+pub mod Surveying

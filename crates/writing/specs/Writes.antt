@@ -1,0 +1,31 @@
+-- What writing a tree in memory answers, and what the room holds next.
+use Prim.Native.Nat.{ℕ}
+use mathlib.Core.List.{List, _++_}
+use lib.ListN.{length, drop}
+use lib.Dec.{ltb}
+use Rattle.paper.specs.Limits.{Limits}
+use Rattle.rules.specs.Choice.{if_then_else_}
+use Rattle.records.specs.Judge.{accept, refuse, outcome}
+use Rattle.survey.specs.Bytes.{bytesOf}
+use Rattle.rules.specs.declared.Answer.{Answer}
+use Rattle.rules.specs.declared.Answer.the-variants.{Done, Room}
+use Rattle.records.specs.declared.Tree.{Tree}
+
+-- what a write answers, and what the room holds next
+pub record Wrote : Type 0 where
+  pub answer : Answer
+  pub bytes : ℕ
+  pub room : List ℕ
+
+abbrev pub wrote : Answer → ℕ → List ℕ → Wrote
+wrote a n room = record { answer = a; bytes = n; room = room }
+
+-- as its bytes would be answered, then Room (9) if they do not fit; room behind them stays
+unfoldable pub writeOf : Limits → Tree → List ℕ → Wrote
+writeOf L t room =
+    elim (outcome L (bytesOf t)) [
+      | accept b ↦
+          if ltb (length room) (length (bytesOf t)) then wrote Room 0 room else
+          wrote Done (length (bytesOf t)) (bytesOf t ++ drop (length (bytesOf t)) room)
+      | refuse a ↦ wrote a 0 room
+    ]
