@@ -10,7 +10,8 @@ use Rattle.paper.specs.Diagrams.{Diagram}
 use Rattle.paper.specs.Listing.{setsBytes, fitting}
 use Rattle.tables.specs.Table.{den}
 use Rattle.tables.specs.Lent.{Lent}
-use Rattle.listing.specs.Answers.{toList, Within, Answered}
+use Rattle.walk.specs.After.{toList}
+use Rattle.listing.specs.Answers.{Within, Answered}
 use Rattle.listing.specs.Answers as answers
 use Rattle.listing.proofs.Join.{part, goes-on}
 use Rattle.promises.proofs.Serving.{serves, hands-on}

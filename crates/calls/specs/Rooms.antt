@@ -10,7 +10,8 @@ use Rattle.paper.specs.Limits.{limits}
 use Rattle.paper.specs.Sets.{Set}
 use Rattle.paper.specs.Diagrams.{Diagram}
 use Rattle.paper.specs.Listing.{setsBytes}
-use Rattle.listing.specs.Answers.{toList, Within}
+use Rattle.walk.specs.After.{toList}
+use Rattle.listing.specs.Answers.{Within}
 
 -- no cut has more bytes
 abbrev pub longest : ℕ

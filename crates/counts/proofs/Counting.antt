@@ -8,7 +8,8 @@ use native.Mathlib.Omega.{arith}
 use lib.ListN.{length, length-append}
 use Rattle.paper.specs.Diagrams.{Diagram}
 use Rattle.paper.specs.Cuts.{setsOf}
-use Rattle.listing.specs.Answers.{toList, Within}
+use Rattle.walk.specs.After.{toList}
+use Rattle.listing.specs.Answers.{Within}
 use Rattle.calls.specs.Rooms.{Next}
 
 abbrev M : ℕ

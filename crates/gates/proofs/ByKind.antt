@@ -1,7 +1,6 @@
 -- A gate by its kind.
 -- Assumes nothing.
 use mathlib.Core.Path.{_≡_, refl, sym, ap, ap₂, _∙_, subst, subst₂}
-use mathlib.Core.Logic.{_≢_}
 use mathlib.Core.Bool.{Bool, true, false, cond}
 use mathlib.Core.List.{List, [], _∷_, _++_, map}
 use Prim.Native.Nat.{ℕ, suc, _≤_}
@@ -9,11 +8,10 @@ use native.Mathlib.Omega.{arith}
 use lib.Dec.{eqb}
 use lib.ListN.{length, getD, take}
 use lib.Seq.{getD-take, length-take-le}
-use borrow.Author.Tests.{eq-eqb, ne-eqb}
 use Rattle.paper.specs.Lists.{In}
 use Rattle.paper.specs.Trees.{Input, event, gate, Gate, andG, orG, leastG}
+use Rattle.paper.specs.Flat.{inputOf, gateOf}
 use Rattle.paper.specs.Diagrams.{Diagram, leaf}
-use Rattle.gates.specs.Rules.{joinAllD, joinStepsD, leastD, leastStepsD, inputD, eventStepsD, valueD, stepsD, kindD, kindStepsD}
 use Rattle.algebra.proofs.Lists.{in-left}
 use Rattle.tables.specs.Table.{den}
 use Rattle.store.specs.Building.{PartOf, Found, Stops}
@@ -22,10 +20,12 @@ use Rattle.store.specs.declared.Built.the-variants.{Done, Short}
 use Rattle.store.proofs.Building.{stops-more}
 use Rattle.store.proofs.Memory.{memo-map}
 use Rattle.joins.proofs.Recursion.{right-grown}
-use Rattle.paper.specs.Flat.{inputOf, gateOf}
-use Rattle.gates.specs.Making.{Own}
-use Rattle.gates.specs.Making.{Row, Within, Held, Gains, Lined}
-use Rattle.gates.proofs.Making.{row-map, made-seq, made-stops, part-more}
+use Rattle.least.specs.Rules.{leastD, leastStepsD}
+use Rattle.least.specs.Making.{Row, Within, Held, Gains}
+use Rattle.least.proofs.Making.{row-map, made-seq, made-stops, part-more}
+use Rattle.combining.specs.Rules.{joinAllD, joinStepsD, kindD, kindStepsD}
+use Rattle.gates.specs.Rules.{inputD, eventStepsD, valueD, stepsD}
+use Rattle.gates.specs.Rows.{Own, Lined}
 use Rattle.gates.proofs.Rows.{codes-long, events-tidy}
 
 module _ (gs : List Diagram) (kind k : ℕ) (is : List Input) where
@@ -63,18 +63,6 @@ module _ (gs hs : List Diagram) (same : (i : ℕ) → getD gs i (leaf false) ≡
   steps-same (andG is) = ap (λ xs. eventStepsD is ++ joinStepsD false xs) (inputs-same is)
   steps-same (orG is) = ap (λ xs. eventStepsD is ++ joinStepsD true xs) (inputs-same is)
   steps-same (leastG k is) = ap (λ xs. eventStepsD is ++ leastStepsD k xs) (inputs-same is)
-
--- ---- what the code makes of each kind
-
-module _ (kind k : ℕ) (ds : List Diagram) (T : List ℕ) (c : ℕ) (T′ H′ X′ M′ : List ℕ) (r : Built) where
-  pub gains-and : kind ≡ 2 → Gains (joinStepsD false ds) (joinAllD false ds) T c T′ H′ X′ M′ r → Gains (kindStepsD kind k ds) (kindD kind k ds) T c T′ H′ X′ M′ r
-  gains-and e g = rw (eq-eqb kind 2 e) g
-
-  pub gains-or : kind ≢ 2 → kind ≡ 3 → Gains (joinStepsD true ds) (joinAllD true ds) T c T′ H′ X′ M′ r → Gains (kindStepsD kind k ds) (kindD kind k ds) T c T′ H′ X′ M′ r
-  gains-or n e g = rw (ne-eqb kind 2 n, eq-eqb kind 3 e) g
-
-  pub gains-least : kind ≢ 2 → kind ≢ 3 → Gains (leastStepsD k ds) (leastD k ds) T c T′ H′ X′ M′ r → Gains (kindStepsD kind k ds) (kindD kind k ds) T c T′ H′ X′ M′ r
-  gains-least n m g = rw (ne-eqb kind 2 n, ne-eqb kind 3 m) g
 
 -- ---- a gate: its inputs, then its kind
 

@@ -1,9 +1,3 @@
--- The laws of one gate: the rules at diagrams, and steps in a row.
-pub mod AtLeast
-pub mod Joining
-pub mod Making
-pub mod Stages
-pub mod Folding
+-- The laws of one gate: the nodes of its inputs, and the gate by its kind.
 pub mod Rows
-pub mod Taking
 pub mod ByKind

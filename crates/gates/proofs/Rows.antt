@@ -14,6 +14,7 @@ use Rattle.paper.specs.Lists.{In}
 use Rattle.paper.specs.Trees.{Input, event, gate}
 use Rattle.paper.specs.Sets.{none}
 use Rattle.paper.specs.Limits.{limits}
+use Rattle.paper.specs.Flat.{gatesFrom, inputOf}
 use Rattle.paper.specs.Diagrams.{Diagram, leaf, node, eval, Reduced}
 use Rattle.algebra.specs.Operations.{eventD}
 use Rattle.algebra.proofs.Lists.{map-append}
@@ -26,10 +27,10 @@ use Rattle.store.specs.declared.Built.the-variants.{Done, Short}
 use Rattle.store.proofs.Denotes.{below-or-not}
 use Rattle.algebra.proofs.Subs.{part-reduced}
 use Rattle.store.proofs.Building.{makes-more, stops-more, is-part, tidy-step}
+use Rattle.least.specs.Making.{Row, Within, Made}
+use Rattle.least.proofs.Making.{all-none, row-here, row-map, row-grown, at-map, map-long, made-here, made-one, made-seq, made-stops, stops-one, part-more}
 use Rattle.gates.specs.Rules.{inputD, eventStepsD}
-use Rattle.paper.specs.Flat.{gatesFrom, inputOf}
-use Rattle.gates.specs.Making.{Row, Within, Made, Named, Names, Lined}
-use Rattle.gates.proofs.Making.{all-none, row-here, row-map, row-grown, at-map, map-long, made-here, made-one, made-seq, made-stops, stops-one, part-more}
+use Rattle.gates.specs.Rows.{Named, Names, Lined}
 
 -- ---- one input
 

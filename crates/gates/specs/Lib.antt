@@ -1,3 +1,3 @@
--- The steps of a gate as diagrams, and what making them answers.
+-- A gate and its inputs as diagrams, and what making a row of nodes answers.
 pub mod Rules
-pub mod Making
+pub mod Rows

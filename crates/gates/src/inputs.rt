@@ -1,5 +1,5 @@
 // The nodes of a gate's inputs: an event's is made where it is first used, a gate's stands in the gate list.
-use crate::Count;
+use least::Count;
 use paper::INPUTS;
 use store::Built;
 ghost use mathlib.Core.Path.{_≡_};
@@ -7,14 +7,14 @@ ghost use mathlib.Core.List.{map, [], _∷_};
 ghost use Prim.Native.Nat.{_+_, _<_};
 ghost use lib.ListN.{length};
 ghost use Rattle.paper.specs.Limits.{limits};
+ghost use Rattle.paper.specs.Flat.{gatesFrom, inputOf};
 ghost use Rattle.algebra.specs.Operations.{eventD};
 ghost use Rattle.tables.specs.Table.{den};
 ghost use Rattle.store.specs.Store.{Store};
 ghost use Rattle.store.specs.Building.{Is, Builds};
+ghost use Rattle.least.specs.Making.{Within};
 ghost use Rattle.gates.specs.Rules.{inputD};
-ghost use Rattle.paper.specs.Flat.{gatesFrom, inputOf};
-ghost use Rattle.gates.specs.Making.{Own};
-ghost use Rattle.gates.specs.Making.{Within, Names, Lines};
+ghost use Rattle.gates.specs.Rows.{Own, Names, Lines};
 
 // The input that stands for gate 0.
 const GATES_FROM: u16 = 256;

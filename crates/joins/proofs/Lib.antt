@@ -1,4 +1,2 @@
--- The laws of joining: of diagrams, of the questions asked first, and of the recursion.
-pub mod Questions
-pub mod Apart
+-- The laws of the recursion.
 pub mod Recursion

@@ -1,6 +1,6 @@
 -- The recursion: the failed halves, then the sound halves, then the node over both.
 -- Assumes nothing.
-use mathlib.Core.Path.{_≡_, sym, ap, ap₂, _∙_, subst}
+use mathlib.Core.Path.{_≡_, refl, sym, ap, ap₂, _∙_, subst}
 use mathlib.Core.List.{List}
 use Prim.Native.Nat.{ℕ, _+_, _-_, _/_, _<_, min, max}
 use native.Mathlib.Omega.{arith}
@@ -18,11 +18,12 @@ use Rattle.store.specs.Memo.{Memo, Place}
 use Rattle.store.specs.declared.Built.{Built}
 use Rattle.store.specs.declared.Built.the-variants.{Done, Short}
 use Rattle.store.proofs.Denotes.{den-grown}
-use Rattle.store.proofs.Building.{step-more, stops-more, step-seq, stops-seq, still, tidy-step, is-part, part-trans}
+use Rattle.store.proofs.Building.{makes-here, step-more, stops-more, step-seq, stops-seq, still, tidy-step, is-part, part-trans}
 use Rattle.store.proofs.Memory.{memo-keep, memo-map, place-kept}
-use Rattle.joins.specs.Joins.{bit, Right, Ready, Joined, Joins, Parted, Finished, Finishes}
-use Rattle.joins.specs.declared.Parts.{Parts}
-use Rattle.joins.proofs.Apart.{join-arranged}
+use Rattle.pairs.specs.Pairs.{bit, Right, Parted, Answers, Finished, Finishes}
+use Rattle.pairs.specs.declared.Parts.{Parts}
+use Rattle.pairs.proofs.Apart.{join-arranged}
+use Rattle.joins.specs.Joins.{Ready, Joined, Joins}
 
 -- what the memo keeps stays right
 pub right-grown : {T T′ : List ℕ} {c c′ : ℕ} → Lower T c → Grown T c T′ c′ → (op f g r : ℕ) → Right T c op f g r → Right T′ c′ op f g r
@@ -43,6 +44,15 @@ memo-grown w k m = memo-map (right-grown w k) m
 -- a full table has as many nodes as it has room for
 full-is : {W : Diagram → Type 0} {T : List ℕ} {c : ℕ} {T′ H′ X′ : List ℕ} {c′ : ℕ} → Stops W T c T′ H′ X′ c′ → {s : Built} → s ≡ Short (length T′ / 3) → Short c′ ≡ s
 full-is x w = ap Short (x .lacks .full) ∙ sym w
+
+-- a known answer adds nothing
+pub known : {T H X M : List ℕ} {c z f g r : ℕ} → Ready T H X M c z f g → Answers M z f g r → Joined T M c (joinD (bit z) (den T f) (den T g)) T H X M c r
+known {T} {H} {X} {M} {c} rd a = record {
+  makes = makes-here (rd .store) (a .right T c (rd .tidy) (rd .memo) (rd .f-in) (rd .g-in));
+  tidy = rd .tidy;
+  memo = rd .memo;
+  long = refl;
+}
 
 module _ {T H X M : List ℕ} {c z f g : ℕ} {p : Parts} (rd : Ready T H X M c z f g) (pt : Parted T f g p) where
   -- the whole and its two halves

@@ -25,7 +25,8 @@ use Rattle.sets.proofs.Words.{empty-none, beyond-room}
 use Rattle.tables.specs.Table.{den}
 use Rattle.tables.specs.Lent.{Lent}
 use Rattle.tables.proofs.Lent.{root-ordered}
-use Rattle.listing.specs.Answers.{startOf, Within, toList, Short, NoneAfter, Refused, Answered}
+use Rattle.walk.specs.After.{toList}
+use Rattle.listing.specs.Answers.{startOf, Within, Short, NoneAfter, Refused, Answered}
 use Rattle.listing.specs.Calls.{Refusal, Listing}
 
 -- ---- what fits

@@ -20,9 +20,9 @@ use Rattle.sets.specs.Bytes.{Laid}
 use Rattle.sets.proofs.Count.{cut-length}
 use Rattle.sets.proofs.Bytes.{keep-agree}
 use Rattle.tables.specs.Table.{eventOf}
-use Rattle.listing.specs.Paths.{ofEvents, eventsOf, along, Climbs, Open}
+use Rattle.walk.specs.Paths.{ofEvents, eventsOf, along, Climbs, Open, Carries}
+use Rattle.walk.proofs.Paths.{climbs-weak, climbs-length, path-length}
 use Rattle.listing.specs.Bytes.{Placed, picked}
-use Rattle.listing.proofs.Paths.{climbs-weak, climbs-length, path-length}
 
 -- ---- the members of a path's set are its events
 
@@ -76,6 +76,17 @@ module _ {n : ℕ} {T : List ℕ} {c : ℕ} {P : List ℕ} {d at : ℕ} (o : Ope
 
   pub path-size : length (setBytes n (along T (take d P))) ≡ 2 * d + 1
   path-size = ap length (path-bytes n (omega arith)) ∙ cut-length (eventsOf T (take d P)) ∙ ap (λ (x : ℕ). 2 * x + 1) events-length
+
+-- the bytes of words that go with the path are those of the path
+module _ {n : ℕ} {T : List ℕ} {c : ℕ} {P : List ℕ} {d at : ℕ} (o : Open n T c P d at) {ws : List ℕ} (k : Carries T P d ws) where
+  carries-bytes : setBytes (room ws) (setOf ws) ≡ setBytes n (along T (take d P))
+  carries-bytes =
+      let l = k .long in
+      let f = o .lent .few-events in
+      ap (setBytes (room ws)) (k .is) ∙ path-bytes o (room ws) (omega arith) ∙ sym (path-bytes o n (omega arith))
+
+  pub carries-placed : {R : List ℕ} {used r : ℕ} {R′ : List ℕ} → Placed R used (setBytes (room ws) (setOf ws)) r R′ → Placed R used (setBytes n (along T (take d P))) r R′
+  carries-placed {R} {used} {r} {R′} p = subst (λ (cut : List ℕ). Placed R used cut r R′) carries-bytes p
 
 -- ---- placed behind the bytes already used
 

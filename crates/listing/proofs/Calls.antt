@@ -13,19 +13,12 @@ use Rattle.paper.specs.Sets.{Set, none}
 use Rattle.paper.specs.Listing.{memberBytes, cutBytes, setBytes, setsBytes}
 use Rattle.sets.specs.Words.{setOf}
 use Rattle.sets.proofs.Bytes.{joined}
-use Rattle.tables.specs.Lent.{Lent}
-use Rattle.listing.specs.Paths.{ofEvents, eventsOf, along, around, Open, leftOf, Reached}
+use Rattle.walk.specs.Paths.{ofEvents, eventsOf, along, around, Open, leftOf, Reached}
+use Rattle.walk.proofs.Paths.{around-one}
 use Rattle.listing.specs.Bytes.{Placed, picked}
 use Rattle.listing.specs.Answers.{Short}
 use Rattle.listing.specs.Calls.{Stopped, Listing, short, wrote}
-use Rattle.listing.proofs.Paths.{around-one}
 use Rattle.listing.proofs.Bytes.{path-bytes, path-size, events-length, picked-all}
-
--- no path yet
-pub open-start : {n : ℕ} {T : List ℕ} {c root : ℕ} (P : List ℕ) → Lent true n T c root → length P ≡ limits .events → Open n T c P 0 root
-open-start P l q =
-    let w = l .few-events in
-    record { lent = l; long = omega arith; deep = omega arith; end = 0; climbs = omega arith; low = omega arith; above = λ h. omega arith }
 
 -- ---- lists of sets
 

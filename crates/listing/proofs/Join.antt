@@ -18,7 +18,8 @@ use Rattle.paper.specs.Listing.{setBytes, setsBytes, fitting}
 use Rattle.sets.specs.Words.{setOf}
 use Rattle.tables.specs.Table.{den}
 use Rattle.tables.proofs.Lent.{root-ordered}
-use Rattle.listing.specs.Answers.{toList, Short, Answered}
+use Rattle.walk.specs.After.{toList}
+use Rattle.listing.specs.Answers.{Short, Answered}
 use Rattle.listing.specs.Joined.{Joined}
 use Rattle.listing.proofs.Calls.{bytes-append}
 use Rattle.listing.proofs.Answers.{Left, left-of, none-left, some-left}

@@ -1,10 +1,5 @@
--- Paths and what is left at them, the walk along a set, bytes, the set that goes with a path, and the listing call.
-pub mod Paths
-pub mod Steps
-pub mod Behind
-pub mod After
+-- Bytes, the listing call, its answer, and calls one after another.
 pub mod Bytes
-pub mod Carry
 pub mod Calls
 pub mod Answers
 pub mod Once

@@ -14,7 +14,8 @@ use Rattle.paper.specs.Listing.{setBytes, fitting, Listed, answered, listed}
 use Rattle.algebra.proofs.Lists.{bool-iff}
 use Rattle.tables.specs.Table.{den}
 use Rattle.tables.specs.Lent.{Lent}
-use Rattle.listing.specs.Answers.{Within, toList, Short, Answered}
+use Rattle.walk.specs.After.{toList}
+use Rattle.listing.specs.Answers.{Within, Short, Answered}
 use Rattle.listing.proofs.Join.{Part, part}
 
 listed-short : (n size : ℕ) (l : List Set) → Short n size l → listed n size l ≡ record { number = 14; written = fitting n size l; finished = false }

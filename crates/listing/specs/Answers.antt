@@ -10,12 +10,13 @@ use Rattle.paper.specs.Lists.{In, lastOr}
 use Rattle.paper.specs.Sets.{Set, none}
 use Rattle.paper.specs.Diagrams.{Diagram}
 use Rattle.paper.specs.Cuts.{setsOf}
-use Rattle.paper.specs.Order.{Before, fromStart}
+use Rattle.paper.specs.Order.{Before}
 use Rattle.paper.specs.Listing.{setBytes, setsBytes, fitting}
 use Rattle.paper.specs.Answers.{Beyond}
 use Rattle.sets.specs.Words.{words, setOf}
 use Rattle.tables.specs.Table.{den}
 use Rattle.tables.specs.Lent.{Lent}
+use Rattle.walk.specs.After.{toList}
 
 -- the set that a call starts after: the empty set from the beginning
 abbrev pub startOf : Bool → List ℕ → Set
@@ -25,10 +26,6 @@ startOf false ws = setOf ws
 -- 13 is not due: the call starts from the beginning, or after a set of the n events
 abbrev pub Within : ℕ → Bool → List ℕ → Type 0
 Within n begin ws = begin ≡ false → Beyond n (setOf ws) → ⊥
-
--- the sets that a call has to list
-abbrev pub toList : ℕ → Diagram → Bool → List ℕ → List Set
-toList n d begin ws = fromStart begin n (setOf ws) (setsOf d)
 
 -- there is a first of the sets l, and so many bytes are too few for it
 abbrev pub Short : ℕ → ℕ → List Set → Type 0

@@ -7,12 +7,11 @@ ghost use Rattle.paper.specs.Listing.{setBytes};
 ghost use Rattle.sets.specs.Words.{words, setOf};
 ghost use Rattle.tables.specs.Table.{den};
 ghost use Rattle.tables.specs.Lent.{Lent};
-ghost use Rattle.listing.specs.Paths.{ofEvents};
+ghost use Rattle.walk.specs.Paths.{ofEvents};
+ghost use Rattle.walk.specs.After.{toList};
 ghost use Rattle.listing.specs.Bytes.{Placed, picked};
-ghost use Rattle.listing.specs.Answers.{toList, Answered};
+ghost use Rattle.listing.specs.Answers.{Answered};
 ghost use Rattle.listing.specs.Calls.{Refusal, Stopped, Listing};
-
-pub mod walk; // walk.rt: from a cut to the next
 
 // A path has at most one node for each event.
 pub const DEPTH: usize = paper::EVENTS;

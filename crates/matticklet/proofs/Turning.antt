@@ -10,7 +10,7 @@ use Rattle.paper.specs.Trees.{Tree, events, rootFun}
 use Rattle.paper.specs.Diagrams.{Diagram}
 use Rattle.paper.specs.Cuts.{cutList}
 use Rattle.tables.specs.Table.{den}
-use Rattle.listing.specs.Answers.{toList}
+use Rattle.walk.specs.After.{toList}
 use Rattle.filling.specs.Memory.{Memory}
 use Rattle.filling.specs.Outcome as said
 use Rattle.filling.specs.declared.Analysis.{Analysis}

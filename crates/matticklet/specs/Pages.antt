@@ -8,7 +8,8 @@ use Prim.Native.Nat.{ℕ, _<_}
 use lib.ListN.{length, take}
 use Rattle.paper.specs.Sets.{Set}
 use Rattle.paper.specs.Diagrams.{Diagram}
-use Rattle.listing.specs.Answers.{toList, Within}
+use Rattle.walk.specs.After.{toList}
+use Rattle.listing.specs.Answers.{Within}
 use Rattle.text.specs.Lines.{cutLines}
 use Rattle.text.specs.Places.{Front}
 

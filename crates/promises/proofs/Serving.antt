@@ -21,7 +21,8 @@ use Rattle.sets.specs.Words.{setOf}
 use Rattle.tables.specs.Table.{den}
 use Rattle.tables.specs.Lent.{Lent}
 use Rattle.tables.proofs.Lent.{root-ordered}
-use Rattle.listing.specs.Answers.{startOf, Within, toList, Short, Answered}
+use Rattle.walk.specs.After.{toList}
+use Rattle.listing.specs.Answers.{startOf, Within, Short, Answered}
 use Rattle.listing.proofs.Join.{fitting-split}
 use Rattle.promises.proofs.Telling.{set-size}
 

@@ -11,7 +11,8 @@ use Rattle.paper.specs.Listing.{fitting}
 use Rattle.paper.specs.Chance.{low, high}
 use Rattle.tables.specs.Table.{den}
 use Rattle.records.specs.Trees.{treeOf}
-use Rattle.listing.specs.Answers.{startOf, toList, Short, Answered}
+use Rattle.walk.specs.After.{toList}
+use Rattle.listing.specs.Answers.{startOf, Short, Answered}
 use Rattle.listing.specs.Answers as listing
 use Rattle.listing.proofs.Once.{Outcome, Allowed, answer-once}
 use Rattle.bracket.specs.Bracketed as bracket

@@ -4,7 +4,7 @@ use native.Mathlib.Omega.{arith}
 use mathlib.Core.Path.{refl, sym}
 use lib.ListN.{length}
 use Rattle.tables.specs.Table.{den}
-use Rattle.listing.specs.Answers.{toList}
+use Rattle.walk.specs.After.{toList}
 use Rattle.calls.proofs.Rooms.{fewer}
 use Rattle.counts.proofs.Counting.{Counted, count-none, count-more, count-end}
 use Rattle.counts.proofs.count_cuts.Statement.{statement}

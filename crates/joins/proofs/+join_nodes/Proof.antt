@@ -6,15 +6,14 @@ use Prim.Native.Nat.{ℕ, _<_, _+_}
 use native.Mathlib.Omega.{arith}
 use borrow.Fn.Kinds.{In}
 use borrow.Fn.PlainCycle.{Measures, is, falls, and}
-use Rattle.joins.proofs.Questions.{known}
-use Rattle.joins.proofs.Recursion.{ready-1, short-1, ready-0, short-0, in-1, in-0, place-2, all}
+use Rattle.joins.proofs.Recursion.{known, ready-1, short-1, ready-0, short-0, in-1, in-0, place-2, all}
 use Rattle.joins.proofs.join_nodes.Reads as join-nodes
 use Rattle.joins.proofs.join_nodes.Kinds as join-nodes-kinds
 use Rattle.joins.proofs.+join_nodes.Lts-join_nodes as join-nodes-lts
-use Rattle.joins.proofs.ask.Reads as ask-reads
-use Rattle.joins.proofs.finish.Reads as finish-reads
-use Rattle.joins.proofs.full.Reads as full-reads
-use Rattle.joins.proofs.take_apart.Reads as take-apart-reads
+use Rattle.pairs.proofs.ask.Reads as ask-reads
+use Rattle.pairs.proofs.finish.Reads as finish-reads
+use Rattle.pairs.proofs.full.Reads as full-reads
+use Rattle.pairs.proofs.take_apart.Reads as take-apart-reads
 use Rattle.joins.proofs.+join_nodes.{statement}
 use Rattle.joins.proofs.+join_nodes.Tie.{close}
 

@@ -1,7 +1,6 @@
 use native.Mathlib.Omega.{arith}
 use Rattle.store.specs.declared.Built.the-variants.{Done}
-use Rattle.joins.proofs.Questions.{known}
-use Rattle.joins.proofs.Recursion.{ready-arranged, joins-arranged}
+use Rattle.joins.proofs.Recursion.{known, ready-arranged, joins-arranged}
 use borrow.Author.Needs.{needs}
 use Rattle.joins.proofs.join.Statement.{statement}
 use Rattle.joins.proofs.join.Tie as tie

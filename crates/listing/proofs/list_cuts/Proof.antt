@@ -5,10 +5,12 @@ use mathlib.Core.Path.{refl, sym, _∙_}
 use Prim.Native.Nat.{_-_}
 use lib.ListN.{length}
 use Rattle.tables.specs.Table.{den}
-use Rattle.listing.specs.Paths.{Carries}
-use Rattle.listing.specs.Answers.{toList}
-use Rattle.listing.proofs.Carry.{carries-none, carries-placed}
-use Rattle.listing.proofs.Calls.{Run, open-start, run-start, run-long, run-inside, run-end, short-inside, run-short, run-more, run-fits, run-less}
+use Rattle.walk.specs.Paths.{Carries}
+use Rattle.walk.specs.After.{toList}
+use Rattle.walk.proofs.Paths.{open-start}
+use Rattle.walk.proofs.Carry.{carries-none}
+use Rattle.listing.proofs.Bytes.{carries-placed}
+use Rattle.listing.proofs.Calls.{Run, run-start, run-long, run-inside, run-end, short-inside, run-short, run-more, run-fits, run-less}
 use Rattle.listing.proofs.list_cuts.Statement.{statement}
 use Rattle.listing.proofs.list_cuts.Tie as tie
 

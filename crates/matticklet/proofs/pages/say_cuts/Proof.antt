@@ -3,7 +3,8 @@ use borrow.Author.Needs.{needs}
 use mathlib.Core.Bool.{true≢false}
 use lib.ListN.{length}
 use Rattle.tables.specs.Table.{den}
-use Rattle.listing.specs.Answers.{toList, Within}
+use Rattle.walk.specs.After.{toList}
+use Rattle.listing.specs.Answers.{Within}
 use Rattle.matticklet.proofs.pages.say_cuts.Statement.{statement}
 use Rattle.matticklet.proofs.pages.say_cuts.Tie as tie
 

@@ -1,0 +1,2 @@
+-- What the steps on two nodes promise.
+pub mod Pairs

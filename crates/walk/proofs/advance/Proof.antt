@@ -1,0 +1,20 @@
+-- `walk::advance` meets its contract. Assumes nothing.
+use borrow.Author.Needs.{needs}
+use Rattle.walk.proofs.Steps.{reached-from}
+use Rattle.walk.proofs.advance.Statement.{statement}
+use Rattle.walk.proofs.advance.Tie as tie
+
+climb-requires : tie.Need-climb-requires
+climb-requires c κs = search needs
+
+land-requires : tie.Need-land-requires
+land-requires c κs = search needs
+
+same-length : tie.Need-same-length
+same-length c = search needs
+
+returns : tie.Need-returns
+returns c = (reached-from (c .before .before .before .before .before .climb .ensures .0) (c .before .before .land .ensures .0), c .before .before .land .ensures .1)
+
+pub advance-spec : {M : Type 1} → statement M
+advance-spec = tie.close (tie.spec climb-requires land-requires same-length returns)
