@@ -14,12 +14,13 @@ use Rattle.rules.specs.declared.Answer.{Answer}
 use Rattle.rules.specs.declared.Answer.the-variants.{Done, Cut, UnknownKind, OutOfPlace, Count, Threshold, Reference, Chance, Unused, Room}
 use Rattle.records.specs.declared.Reading.{Reading}
 use Rattle.trees.proofs.Promises.{Good, done-is-good}
-use Rattle.filling.specs.Memory.{Memory, Lengths}
-use Rattle.filling.specs.Outcome.{Refused, at}
-use Rattle.filling.specs.Filling.{treeIn, WasRead, CutsFilled, Filled}
+use Rattle.memory.specs.Memory.{Memory, Lengths}
+use Rattle.memory.specs.Outcome.{Refused, at}
+use Rattle.completing.specs.Completing.{CutsFilled}
+use Rattle.filling.specs.Filling.{treeIn, WasRead, Filled}
 use Rattle.analyser.specs.Analysed.{Tried, Analysed}
-use Rattle.filling.specs.declared.Analysis.{Analysis}
-use Rattle.filling.proofs.Tables.{read-is, read-count}
+use Rattle.memory.specs.declared.Analysis.{Analysis}
+use Rattle.filling.proofs.Reading.{read-is, read-count}
 
 -- only Done has number 0
 pub done-of : (a : Answer) → verdict a .number ≡ 0 → a ≡ Done

@@ -11,10 +11,10 @@ use Rattle.rules.specs.Answers.{verdict}
 use Rattle.records.specs.Trees.{treeOf}
 use Rattle.rules.specs.declared.Answer.{Answer}
 use Rattle.records.specs.declared.Tree.{Tree}
-use Rattle.filling.specs.Memory.{Memory, Lengths, AllZero, capacity}
-use Rattle.filling.specs.Outcome.{Refused, at, Done}
+use Rattle.memory.specs.Memory.{Memory, Lengths, AllZero, capacity}
+use Rattle.memory.specs.Outcome.{Refused, at, Done}
 use Rattle.filling.specs.Filling.{treeIn, Filled}
-use Rattle.filling.specs.declared.Analysis.{Analysis}
+use Rattle.memory.specs.declared.Analysis.{Analysis}
 
 -- the bytes, what was lent before and after, and the answer: the first rule that is broken, or done
 pub data Analysed (bytes : List ℕ) (m m′ : Memory) (a : Analysis) : Type 0 where

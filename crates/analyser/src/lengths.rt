@@ -3,7 +3,7 @@ ghost use Prim.Native.Nat.{_+_, _/_, _≤_, max};
 ghost use mathlib.Core.Path.{_≡_};
 ghost use lib.ListN.{length};
 ghost use Rattle.tables.specs.Flags.{Says};
-ghost use Rattle.filling.specs.Memory.{areaLength, TableLength, Areas, Lengths, memory, capacity};
+ghost use Rattle.memory.specs.Memory.{areaLength, TableLength, Areas, Lengths, memory, capacity};
 
 // Whether a table's length obeys the rules.
 fn table_ok(table: &[u32]) -> bool

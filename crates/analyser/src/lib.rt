@@ -2,9 +2,9 @@
 mod lengths; // number 9
 
 use bracket::Ends;
-use filling::Analysis;
 use lengths::lengths_ok;
 use listing::Listed;
+use memory::Analysis;
 use records::Reading;
 use records::Tree;
 use survey::Written;
@@ -15,7 +15,7 @@ ghost use Rattle.records.specs.Memory.{inMemory};
 ghost use Rattle.writing.specs.Writes.{wrote, writeOf};
 ghost use Rattle.listing.specs.Answers.{Answered};
 ghost use Rattle.bracket.specs.Bracketed.{Bracketed};
-ghost use Rattle.filling.specs.Memory.{memory};
+ghost use Rattle.memory.specs.Memory.{memory};
 ghost use Rattle.filling.specs.Filling.{WasRead};
 ghost use Rattle.analyser.specs.Analysed.{Tried, Analysed};
 
@@ -80,7 +80,7 @@ fn analyse_tree(
 {
     let count = tree.gate_count;
     if !lengths_ok(nodes, cuts, gates, memo, heads, next, marks, own, count) {
-        return filling::refused(9, 0);
+        return memory::refused(9, 0);
     }
     filling::fill(tree, nodes, cuts, gates, memo, heads, next, marks, own)
 }
@@ -104,7 +104,7 @@ pub fn analyse(
     let a = r.answer;
     let number = rules::number(a);
     if number != 0 {
-        return filling::refused(number, rules::place(a));
+        return memory::refused(number, rules::place(a));
     }
     let tree = r.tree;
     analyse_tree(tree, nodes, cuts, gates, memo, heads, next, marks, own)

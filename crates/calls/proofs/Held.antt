@@ -20,10 +20,10 @@ use Rattle.records.proofs.Pad.{pad-getD}
 use Rattle.trees.proofs.Lawful.{lawful, tree-events}
 use Rattle.trees.proofs.Promises.{done-is-good}
 use Rattle.bracket.specs.Bracketed.{Chances}
-use Rattle.filling.specs.Memory.{Memory}
-use Rattle.filling.specs.Outcome as said
+use Rattle.memory.specs.Memory.{Memory}
+use Rattle.memory.specs.Outcome as said
 use Rattle.analyser.specs.Analysed as an
-use Rattle.filling.specs.declared.Analysis.{Analysis}
+use Rattle.memory.specs.declared.Analysis.{Analysis}
 use Rattle.analyser.proofs.Outcomes.{done-of}
 use Rattle.arrays.specs.Chances.{chancesOf}
 use Rattle.arrays.proofs.Chances.{chance-at}

@@ -1,6 +1,6 @@
 // Analyses trees and says what each needs, how many cuts it has and its top's bracket; then what tables with just enough room are answered, and
 // tables with room for a node or a cut node less. All memory comes dirty.
-use filling::Analysis;
+use memory::Analysis;
 use records::Tree;
 ghost use mathlib.Core.Bool.{true};
 ghost use mathlib.Core.Path.{_≡_};

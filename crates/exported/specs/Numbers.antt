@@ -9,7 +9,7 @@ use Rattle.writing.specs.Writes.{Wrote}
 use Rattle.records.specs.declared.Reading.{Reading}
 use Rattle.listing.specs.declared.Listed.{Listed}
 use Rattle.bracket.specs.declared.Ends.{Ends}
-use Rattle.filling.specs.declared.Analysis.{Analysis}
+use Rattle.memory.specs.declared.Analysis.{Analysis}
 
 abbrev pub ofReading : Reading → List ℕ
 ofReading r = verdict (r .answer) .number ∷ verdict (r .answer) .place ∷ r .tree .«event_count» ∷ r .tree .«gate_count» ∷ []

@@ -14,9 +14,9 @@ ghost use Rattle.listing.specs.Answers.{Answered};
 ghost use Rattle.listing.specs.declared.Listed.{Listed};
 ghost use Rattle.bracket.specs.Bracketed.{Bracketed};
 ghost use Rattle.bracket.specs.declared.Ends.{Ends};
-ghost use Rattle.filling.specs.Memory.{memory};
+ghost use Rattle.memory.specs.Memory.{memory};
 ghost use Rattle.analyser.specs.Analysed.{Analysed};
-ghost use Rattle.filling.specs.declared.Analysis.{Analysis};
+ghost use Rattle.memory.specs.declared.Analysis.{Analysis};
 ghost use Rattle.exported.specs.Arrays.{arrays, treeFrom, after};
 ghost use Rattle.exported.specs.Numbers.{ofReading, ofWriting, ofAnalysis, ofListing, ofBracket};
 

@@ -1,3 +1,3 @@
--- The nodes that the tables hold, and from finished tables to the answer.
-pub mod Holding
-pub mod Tables
+-- A tree that was read, and from building to the answer.
+pub mod Reading
+pub mod Filling

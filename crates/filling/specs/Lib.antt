@@ -1,4 +1,2 @@
--- What is lent to an analysis, what an analysis says and leaves there, and the two tables on the way.
-pub mod Memory
-pub mod Outcome
+-- A tree that was read, and what comes of it.
 pub mod Filling

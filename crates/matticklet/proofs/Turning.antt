@@ -11,9 +11,9 @@ use Rattle.paper.specs.Diagrams.{Diagram}
 use Rattle.paper.specs.Cuts.{cutList}
 use Rattle.tables.specs.Table.{den}
 use Rattle.walk.specs.After.{toList}
-use Rattle.filling.specs.Memory.{Memory}
-use Rattle.filling.specs.Outcome as said
-use Rattle.filling.specs.declared.Analysis.{Analysis}
+use Rattle.memory.specs.Memory.{Memory}
+use Rattle.memory.specs.Outcome as said
+use Rattle.memory.specs.declared.Analysis.{Analysis}
 use Rattle.calls.specs.Rooms.{Next}
 use Rattle.calls.proofs.Rooms.{fewer}
 use Rattle.text.specs.Lines.{cutLine, cutLines}

@@ -1,5 +1,5 @@
 // The program: reads a tree from standard input, and writes its counts, its cuts and its top's bracket, or one line of refusal.
-use filling::Analysis;
+use memory::Analysis;
 use records::Tree;
 ghost use Rattle.text.specs.Lines.{head as headText};
 ghost use Rattle.text.specs.Places.{Front};

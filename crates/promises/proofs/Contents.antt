@@ -8,10 +8,10 @@ use Prim.Native.Nat.{ℕ, _/_}
 use Rattle.paper.specs.Trees.{Tree}
 use Rattle.paper.specs.Answers.{NodesFull, CutsFull}
 use Rattle.records.specs.Trees.{treeOf}
-use Rattle.filling.specs.Memory.{Memory, capacity}
+use Rattle.memory.specs.Memory.{Memory, capacity}
 use Rattle.analyser.specs.Analysed.{Analysed}
-use Rattle.filling.specs.declared.Analysis.{Analysis}
-use Rattle.filling.proofs.Tables.{SameLengths, all-zero-from, done-from, lengths-from}
+use Rattle.memory.specs.declared.Analysis.{Analysis}
+use Rattle.memory.proofs.Before.{SameLengths, all-zero-from, done-from, lengths-from}
 
 module _ {m k : Memory} (s : SameLengths m k) where
   other-way : SameLengths k m

@@ -8,14 +8,14 @@ use Rattle.records.specs.Judge.{Book}
 use Rattle.records.specs.Trees.{Lawful, treeOf}
 use Rattle.trees.proofs.Lawful.{lawful}
 use Rattle.listing.proofs.Join.{join-all, goes-on}
-use Rattle.filling.specs.Memory.{Memory}
-use Rattle.filling.specs.Outcome.{Done}
+use Rattle.memory.specs.Memory.{Memory}
+use Rattle.memory.specs.Outcome.{Done}
 use Rattle.analyser.specs.Analysed.{Analysed}
-use Rattle.filling.specs.Filling.{Sound}
+use Rattle.completing.specs.Completing.{Sound}
 use Rattle.promises.specs.Delivers.{Exact, Faithful, Listed, Near, Delivers}
 use Rattle.promises.specs.Reasons.{Accepted}
-use Rattle.filling.specs.declared.Analysis.{Analysis}
-use Rattle.filling.proofs.Tables.{read-sound}
+use Rattle.memory.specs.declared.Analysis.{Analysis}
+use Rattle.filling.proofs.Reading.{read-sound}
 use Rattle.promises.proofs.Promises.{root-function, gates-agree, functions-apart, families-apart}
 use Rattle.promises.proofs.OnTables.{list-takes, list-no-other, bracket-takes, bracket-encloses, own-answers, cuts-exactly, cuts-sorted, cuts-once, cuts-decide}
 use Rattle.promises.proofs.Serving.{serves, hands-on}

@@ -31,11 +31,11 @@ use Rattle.listing.specs.Joined.{Joined}
 use Rattle.listing.proofs.Join.{join, join-all}
 use Rattle.bracket.specs.Bracketed as bracket
 use Rattle.bracket.proofs.Outcome.{encloses-built}
-use Rattle.filling.specs.Memory.{Memory, capacity}
-use Rattle.filling.specs.Outcome.{Done}
-use Rattle.filling.specs.Filling.{Sound}
+use Rattle.memory.specs.Memory.{Memory, capacity}
+use Rattle.memory.specs.Outcome.{Done}
+use Rattle.completing.specs.Completing.{Sound}
 use Rattle.promises.specs.Delivers.{Own}
-use Rattle.filling.specs.declared.Analysis.{Analysis}
+use Rattle.memory.specs.declared.Analysis.{Analysis}
 use Rattle.promises.proofs.Promises.{root-function}
 use Rattle.promises.proofs.Telling.{bytes-tell}
 

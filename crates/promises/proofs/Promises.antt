@@ -22,9 +22,9 @@ use Rattle.algebra.proofs.Listing.{trim-whole}
 use Rattle.tables.specs.Table.{den}
 use Rattle.tables.proofs.Lent.{lent-lower, lent-ordered, lent-suppressed}
 use Rattle.tables.proofs.Once.{den-inj, lent-good}
-use Rattle.filling.specs.Memory.{Memory}
-use Rattle.filling.specs.Outcome.{functionOf, familyOf, Done}
-use Rattle.filling.specs.declared.Analysis.{Analysis}
+use Rattle.memory.specs.Memory.{Memory}
+use Rattle.memory.specs.Outcome.{functionOf, familyOf, Done}
+use Rattle.memory.specs.declared.Analysis.{Analysis}
 
 -- ---- the last gate's function is the root's
 

@@ -18,7 +18,7 @@ use Rattle.tables.proofs.Den.{den-0, den-1, den-node}
 use Rattle.tables.proofs.Lent.{lent-lower, lent-ordered, lent-suppressed}
 use Rattle.tables.proofs.Once.{den-inj, lent-good}
 use Rattle.store.proofs.Denotes.{below-or-not, den-is-node, den-no-node}
-use Rattle.filling.specs.Outcome.{Table, functionOf, familyOf, Holds}
+use Rattle.memory.specs.Outcome.{Table, functionOf, familyOf, Holds}
 use Rattle.promises.specs.Coincide.{Renumbering}
 
 -- each stored node of T denotes what some stored node of T′ does

@@ -17,11 +17,11 @@ use Rattle.listing.specs.Answers as listing
 use Rattle.listing.proofs.Once.{Outcome, Allowed, answer-once}
 use Rattle.bracket.specs.Bracketed as bracket
 use Rattle.bracket.proofs.Outcome.{Same, one-outcome}
-use Rattle.filling.specs.Memory.{Memory}
-use Rattle.filling.specs.Outcome.{Done}
+use Rattle.memory.specs.Memory.{Memory}
+use Rattle.memory.specs.Outcome.{Done}
 use Rattle.analyser.specs.Analysed.{Analysed}
 use Rattle.promises.specs.Reasons.{Accepted}
-use Rattle.filling.specs.declared.Analysis.{Analysis}
+use Rattle.memory.specs.declared.Analysis.{Analysis}
 use Rattle.promises.proofs.Coincide.{same-book, coincide, same-number, done-renumbered}
 use Rattle.promises.proofs.Which.{finished-tree}
 

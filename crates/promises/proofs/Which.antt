@@ -12,10 +12,10 @@ use Rattle.rules.specs.Answers.{verdict}
 use Rattle.records.specs.Judge.{refuse, outcome}
 use Rattle.records.specs.Trees.{treeOf}
 use Rattle.rules.specs.declared.Answer.{Answer}
-use Rattle.filling.specs.Memory.{Memory, Lengths, AllZero, capacity}
-use Rattle.filling.specs.Outcome.{Refused, at, Done}
+use Rattle.memory.specs.Memory.{Memory, Lengths, AllZero, capacity}
+use Rattle.memory.specs.Outcome.{Refused, at, Done}
 use Rattle.analyser.specs.Analysed.{Analysed}
-use Rattle.filling.specs.declared.Analysis.{Analysis}
+use Rattle.memory.specs.declared.Analysis.{Analysis}
 use Rattle.promises.specs.Reasons.{OneToEight, BadTree, Accepted, Long, TooManyNodes, TooManyCuts}
 use Rattle.promises.proofs.Refusals.{refusal-range}
 use Rattle.promises.proofs.Coincide.{same-answer, same-book, not-both, coincide, same-number}

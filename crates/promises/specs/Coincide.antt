@@ -6,8 +6,8 @@ use mathlib.Core.List.{List}
 use Prim.Native.Nat.{ℕ, _+_, _*_, _≤_, _<_}
 use lib.ListN.{length, getD}
 use Rattle.tables.specs.Table.{eventOf, failedOf, soundOf, den}
-use Rattle.filling.specs.Memory.{Memory}
-use Rattle.filling.specs.declared.Analysis.{Analysis}
+use Rattle.memory.specs.Memory.{Memory}
+use Rattle.memory.specs.declared.Analysis.{Analysis}
 
 -- The c nodes of T under other numbers are the c′ nodes of T′: leaves stay, each way undoes the other, and events and branches go along.
 -- Behind the nodes the tables are equal.

@@ -24,9 +24,9 @@ use Rattle.listing.specs.Answers.{Answered}
 use Rattle.listing.specs.Answers.{Within as Starts}
 use Rattle.listing.specs.Joined.{Joined}
 use Rattle.bracket.specs.Bracketed.{chanceIn, Bracketed}
-use Rattle.filling.specs.Memory.{Memory, capacity}
-use Rattle.filling.specs.Outcome.{functionOf, familyOf, Holds}
-use Rattle.filling.specs.declared.Analysis.{Analysis}
+use Rattle.memory.specs.Memory.{Memory, capacity}
+use Rattle.memory.specs.Outcome.{functionOf, familyOf, Holds}
+use Rattle.memory.specs.declared.Analysis.{Analysis}
 
 -- the function of gate i
 abbrev pub gateOf : Tree → ℕ → Fun

@@ -10,7 +10,7 @@ use Rattle.rules.specs.Answers.{verdict}
 use Rattle.records.specs.Judge.{Book, accept, refuse, outcome}
 use Rattle.records.specs.Trees.{treeOf}
 use Rattle.rules.specs.declared.Answer.{Answer}
-use Rattle.filling.specs.Memory.{Memory, Lengths, capacity}
+use Rattle.memory.specs.Memory.{Memory, Lengths, capacity}
 
 abbrev pub OneToEight : ℕ → Type 0
 OneToEight k = (1 ≤ k) × (k ≤ 8)

@@ -1,7 +1,8 @@
 -- `filling::fill` meets its contract: what the builders promise comes to 10, 11, or done. Assumes nothing.
 use mathlib.Core.Path.{refl, sym, _∙_}
 use native.Mathlib.Omega.{arith}
-use Rattle.filling.proofs.Tables.{read-arrays, read-sizes, read-is-sound, read-lengths, build-areas, whole-in, over-in, nodes-are-full, nodes-do-fit}
+use Rattle.filling.proofs.Reading.{read-arrays, read-sizes, read-is-sound, read-lengths, build-areas, whole-in, over-in}
+use Rattle.filling.proofs.Filling.{nodes-are-full, nodes-do-fit}
 use borrow.Author.Needs.{needs}
 use Rattle.filling.proofs.fill.Statement.{statement}
 use Rattle.filling.proofs.fill.Tie as tie

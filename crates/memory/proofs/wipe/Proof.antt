@@ -1,7 +1,7 @@
--- `filling::wipe` meets its contract: each area is cleared. Assumes nothing.
+-- `memory::wipe` meets its contract: each area is cleared. Assumes nothing.
 use borrow.Author.Needs.{needs}
-use Rattle.filling.proofs.wipe.Statement.{statement}
-use Rattle.filling.proofs.wipe.Tie as tie
+use Rattle.memory.proofs.wipe.Statement.{statement}
+use Rattle.memory.proofs.wipe.Tie as tie
 
 clear-requires : tie.Need-clear-requires
 clear-requires c κs = search needs

@@ -21,7 +21,7 @@ use Rattle.store.specs.Building.{PartOf}
 use Rattle.store.proofs.Denotes.{found-whole}
 use Rattle.build.specs.Finishing.{Whole}
 use Rattle.cuts.specs.Cutting.{families, CutTable}
-use Rattle.filling.specs.Outcome.{functionOf, familyOf, Holds}
+use Rattle.memory.specs.Outcome.{functionOf, familyOf, Holds}
 
 -- a node of one of these diagrams, as a member of the list of all their nodes
 part-in : (ds : List Diagram) (E : Diagram) → PartOf ds E → In E (keep isNode (flat subs ds))

@@ -17,8 +17,8 @@ use Rattle.algebra.specs.Families.{holds}
 use Rattle.tables.specs.Table.{den}
 use Rattle.tables.specs.Stored.{Unique, ZeroBehind}
 use Rattle.tables.specs.Lent.{Lent}
-use Rattle.filling.specs.Memory.{Memory, Zero}
-use Rattle.filling.specs.declared.Analysis.{Analysis}
+use Rattle.memory.specs.Memory.{Memory, Zero}
+use Rattle.memory.specs.declared.Analysis.{Analysis}
 
 -- a number and its place; counts and roots are 0
 pub record Refused (v : Verdict) (a : Analysis) : Type 0 where

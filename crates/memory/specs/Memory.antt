@@ -63,3 +63,11 @@ pub record AllZero (m m′ : Memory) : Type 0 where
   pub next : Zero (m .next) (m′ .next)
   pub marks : Zero (m .marks) (m′ .marks)
   pub own : Zero (m .own) (m′ .own)
+
+-- the memo and the work areas, before and after
+pub record Settled (M H X K O M′ H′ X′ K′ O′ : List ℕ) : Type 0 where
+  pub memo : Zero M M′
+  pub heads : Zero H H′
+  pub next : Zero X X′
+  pub marks : Zero K K′
+  pub own : Zero O O′

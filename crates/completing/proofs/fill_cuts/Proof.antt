@@ -1,10 +1,10 @@
--- `filling::fill_cuts` meets its contract: what the cut builder promises comes to 11, or to done.
+-- `completing::fill_cuts` meets its contract: what the cut builder promises comes to 11, or to done.
 -- Assumes nothing.
 use mathlib.Core.Path.{refl, _∙_}
-use Rattle.filling.proofs.Tables.{ground-readable, ground-room, cuts-are-full, cuts-are-done}
+use Rattle.completing.proofs.Tables.{ground-readable, ground-room, cuts-are-full, cuts-are-done}
 use borrow.Author.Needs.{needs}
-use Rattle.filling.proofs.fill_cuts.Statement.{statement}
-use Rattle.filling.proofs.fill_cuts.Tie as tie
+use Rattle.completing.proofs.fill_cuts.Statement.{statement}
+use Rattle.completing.proofs.fill_cuts.Tie as tie
 
 build-cuts-requires : tie.Need-build-cuts-requires
 build-cuts-requires c κs =

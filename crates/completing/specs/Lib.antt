@@ -1,0 +1,2 @@
+-- A finished node table, and what comes of it.
+pub mod Completing

@@ -1,0 +1,2 @@
+-- Memory that has the same lengths.
+pub mod Before
