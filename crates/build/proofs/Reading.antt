@@ -5,13 +5,14 @@ use mathlib.Core.List.{List, []}
 use Prim.Native.Nat.{ℕ, _+_, _-_, _≤_, _<_}
 use native.Mathlib.Omega.{arith}
 use native.Mathlib.Decide.{ℕ-discrete}
-use lib.ListN.{length, getD, replicate, length-append}
+use lib.ListN.{length, getD, take, replicate, length-append, length-take}
 use Rattle.paper.specs.Limits.{limits}
 use Rattle.paper.specs.Flat.{gatesFrom}
 use Rattle.records.specs.Judge.{Book, start, Outcome, accept, refuse, outcome}
 use Rattle.records.specs.Memory.{pad, memory, inMemory}
 use Rattle.records.specs.Trees.{Lawful}
 use Rattle.records.specs.declared.Reading.{Reading}
+use Rattle.records.specs.declared.Tree.{Tree}
 use Rattle.records.proofs.Pad.{pad-take, pad-length}
 use Rattle.trees.proofs.InMemory.{pad-at}
 use Rattle.trees.proofs.Lawful.{lawful}
@@ -78,3 +79,7 @@ arrays-read bytes = go (outcome limits bytes) refl
 
 pub arrays-of : (bytes : List ℕ) {r : Reading} → r ≡ inMemory (outcome limits bytes) → Arrays (r .tree)
 arrays-of bytes e = subst (λ r. Arrays (r .tree)) (sym e) (arrays-read bytes)
+
+-- the sizes of its gates, as many as there are gates
+pub array-sizes : {t : Tree} → Arrays t → t .«gate_count» ≡ length (take (t .«gate_count») (t .sizes))
+array-sizes a = simp length-take (omega (arith, a .few-gates, a .all-sizes))

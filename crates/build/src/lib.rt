@@ -1,15 +1,16 @@
 // The diagrams of a tree's gates in one table, gate by gate.
+use records::Tree;
 use store::Built;
 use tables::clear;
 ghost use mathlib.Core.Path.{_≡_};
 ghost use mathlib.Core.List.{map};
 ghost use Prim.Native.Nat.{_+_, _/_, _<_, _≤_};
-ghost use lib.ListN.{length};
+ghost use lib.ListN.{length, take};
 ghost use Rattle.tables.specs.Table.{den};
 ghost use Rattle.store.specs.Memo.{Places};
 ghost use Rattle.gates.specs.Rules.{valueD, stepsD};
 ghost use Rattle.paper.specs.Flat.{gatesOf};
-ghost use Rattle.build.specs.Memory.{startOf, gateAt, Plan};
+ghost use Rattle.build.specs.Memory.{startOf, gateAt, Plan, Arrays};
 ghost use Rattle.least.specs.Making.{Within, Held, Gains};
 ghost use Rattle.build.specs.Finishing.{Areas, Sofar, Finishes};
 
@@ -142,7 +143,7 @@ fn build_over(
 
 // Builds the diagrams of all gates of a tree. What the memory holds at entry does not matter. A memo of no place gives way to one of a single place, so
 // that the recursion need not ask whether there is one.
-pub fn build(
+fn build(
     nodes: &mut [u32],
     heads: &mut [u32],
     next: &mut [u32],
@@ -183,5 +184,37 @@ pub fn build(
         leasts,
         sizes,
         inputs,
+    )
+}
+
+// Builds them from the arrays of a tree in memory.
+pub fn build_tree(
+    tree: Tree,
+    nodes: &mut [u32],
+    heads: &mut [u32],
+    next: &mut [u32],
+    memo: &mut [u32],
+    gates: &mut [u32],
+) -> Finish
+    requires { ⌜ Arrays tree ⌝ }
+    requires { ⌜ Areas (now nodes) (now heads) (now next) ⌝ }
+    requires { ⌜ tree .«gate_count» ≤ length (now gates) ⌝ }
+    ensures { λ r. ⌜ Finishes (gatesOf (tree .kinds) (tree .leasts) 0 (take (tree .«gate_count») (tree .sizes)) (tree .inputs)) (length (now (nodes .entry)) / 3) (now (gates .exit)) (now (nodes .exit)) (now (heads .exit)) (now (next .exit)) r ⌝ }
+{
+    let count = tree.gate_count;
+    let kinds = tree.kinds;
+    let leasts = tree.leasts;
+    let sizes = tree.sizes;
+    let inputs = tree.inputs;
+    build(
+        nodes,
+        heads,
+        next,
+        memo,
+        gates,
+        &kinds,
+        &leasts,
+        &sizes[..count],
+        &inputs,
     )
 }

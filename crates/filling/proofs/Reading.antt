@@ -4,7 +4,7 @@ use mathlib.Core.Path.{_≡_, refl, sym, ap, ap₂, _∙_, subst}
 use mathlib.Core.List.{List, map}
 use Prim.Native.Nat.{ℕ}
 use native.Mathlib.Omega.{arith}
-use lib.ListN.{length, take, length-take}
+use lib.ListN.{length, take}
 use Rattle.paper.specs.Limits.{limits}
 use Rattle.paper.specs.Trees.{TreeBelow}
 use Rattle.paper.specs.Flat.{gatesOf}
@@ -55,9 +55,6 @@ read-sound b l =
 module _ {t : Tree} (w : WasRead t) where
   pub read-arrays : Arrays t
   read-arrays = subst Arrays (sym (w .is)) (arrays-memory (w .book) (w .lawful))
-
-  pub read-sizes : t .«gate_count» ≡ length (take (t .«gate_count») (t .sizes))
-  read-sizes = let a = read-arrays in simp length-take (omega (arith, a .few-gates, a .all-sizes))
 
   pub read-is : treeIn t ≡ treeOf (w .book)
   read-is = ap treeIn (w .is) ∙ read-tree (w .book) (w .lawful)

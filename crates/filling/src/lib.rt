@@ -21,22 +21,7 @@ pub fn fill(
     requires { ⌜ Lengths (tree .«gate_count») (memory (now nodes) (now cuts) (now gates) (now memo) (now heads) (now next) (now marks) (now own)) ⌝ }
     ensures { λ r. ⌜ Filled (treeIn tree) (memory (now (nodes .entry)) (now (cuts .entry)) (now (gates .entry)) (now (memo .entry)) (now (heads .entry)) (now (next .entry)) (now (marks .entry)) (now (own .entry))) (memory (now (nodes .exit)) (now (cuts .exit)) (now (gates .exit)) (now (memo .exit)) (now (heads .exit)) (now (next .exit)) (now (marks .exit)) (now (own .exit))) r ⌝ }
 {
-    let count = tree.gate_count;
-    let kinds = tree.kinds;
-    let leasts = tree.leasts;
-    let sizes = tree.sizes;
-    let inputs = tree.inputs;
-    match build::build(
-        nodes,
-        heads,
-        next,
-        memo,
-        gates,
-        &kinds,
-        &leasts,
-        &sizes[..count],
-        &inputs,
-    ) {
+    match build::build_tree(tree, nodes, heads, next, memo, gates) {
         Finish::Over(gate) => {
             memory::wipe(nodes, cuts, gates, memo, heads, next, marks, own);
             memory::refused(10, 0)

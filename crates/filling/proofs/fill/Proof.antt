@@ -1,33 +1,14 @@
 -- `filling::fill` meets its contract: what the builders promise comes to 10, 11, or done. Assumes nothing.
-use mathlib.Core.Path.{refl, sym, _∙_}
-use native.Mathlib.Omega.{arith}
-use Rattle.filling.proofs.Reading.{read-arrays, read-sizes, read-is-sound, read-lengths, build-areas, whole-in, over-in}
+use mathlib.Core.Path.{refl, _∙_}
+use Rattle.filling.proofs.Reading.{read-arrays, read-is-sound, read-lengths, build-areas, whole-in, over-in}
 use Rattle.filling.proofs.Filling.{nodes-are-full, nodes-do-fit}
 use borrow.Author.Needs.{needs}
 use Rattle.filling.proofs.fill.Statement.{statement}
 use Rattle.filling.proofs.fill.Tie as tie
 
-slice-aggregate-build : tie.Need-slice-aggregate-build
-slice-aggregate-build c = search needs
-
-slice-aggregate-build-2 : tie.Need-slice-aggregate-build-2
-slice-aggregate-build-2 c = search needs
-
-array-share-prefix-sizes : tie.Need-array-share-prefix-sizes
-array-share-prefix-sizes c =
-    let a = read-arrays (c .before .before .before .before .before .before .before .before .before .before .before .before .before .before .before .before .before .before .before .pre .0) in omega (arith, a .few-gates, a .all-sizes)
-
-slice-aggregate-build-3 : tie.Need-slice-aggregate-build-3
-slice-aggregate-build-3 c =
-    read-sizes (c .before .before .before .before .before .before .before .before .before .before .before .before .before .before .before .before .before .before .before .before .pre .0)
-
-slice-aggregate-build-4 : tie.Need-slice-aggregate-build-4
-slice-aggregate-build-4 c =
-    sym (read-arrays (c .before .before .before .before .before .before .before .before .before .before .before .before .before .before .before .before .before .before .before .before .before .pre .0) .all-inputs)
-
-build-requires : tie.Need-build-requires
-build-requires c κs =
-    (build-areas (c .before .before .before .before .before .before .before .before .before .before .before .before .before .before .before .before .before .before .before .before .before .pre .1), (read-arrays (c .before .before .before .before .before .before .before .before .before .before .before .before .before .before .before .before .before .before .before .before .before .pre .0) .plan, omega (arith, read-sizes (c .before .before .before .before .before .before .before .before .before .before .before .before .before .before .before .before .before .before .before .before .before .pre .0), c .before .before .before .before .before .before .before .before .before .before .before .before .before .before .before .before .before .before .before .before .before .pre .1 .gate-list)))
+build-tree-requires : tie.Need-build-tree-requires
+build-tree-requires c κs =
+    let s = c .before .before .before .before .before .before .before .before .before .before .before .before .before in (read-arrays (s .pre .0), (build-areas (s .pre .1), s .pre .1 .gate-list))
 
 enum-known-gate : tie.Need-enum-known-gate
 enum-known-gate c = search needs
@@ -43,19 +24,20 @@ enum-known-root c = search needs
 
 fill-cuts-requires : tie.Need-fill-cuts-requires
 fill-cuts-requires c κs =
-    let k = c .before .before .before .before .before .before .before .before .before .before .before .before .before .before .before .before .before .before .before .before .before .build .kept in
+    let s = c .before .before .before .before .before .before .before .before .before .before .before .before .before .before .before .before .before .before .before .before .before .before .before .before .before .before .before .before .before .before .before .before .before .before .before in
+    let k = c .before .before .before .before .before .before .before .before .before .before .before .before .before .before .before .before .before .before .before .before .before .build-tree .kept .1 in
     record {
       tree = _;
       ground = record {
-        sound = read-is-sound (c .before .before .before .before .before .before .before .before .before .before .before .before .before .before .before .before .before .before .before .before .before .before .before .before .before .before .before .before .before .before .before .before .before .before .before .before .before .before .before .before .before .before .before .pre .0);
-        whole = whole-in (c .before .before .before .before .before .before .before .before .before .before .before .before .before .before .before .before .before .before .before .before .before .before .before .before .before .before .before .before .before .before .before .before .before .before .before .before .before .before .before .before .before .before .before .args .tree) (rw (c .before .before .before .before .before .before .before .before .before .root .given .1) at (c .before .before .before .before .before .before .before .before .before .before .before .before .before .before .before .before .before .before .before .before .before .build .ensures));
-        lengths = read-lengths (c .before .before .before .before .before .before .before .before .before .before .before .before .before .before .before .before .before .before .before .before .before .before .before .before .before .before .before .before .before .before .before .before .before .before .before .before .before .before .before .before .before .before .before .pre .0) (record { nodes = k .0; cuts = refl; gates = k .1 .1 .1 .1 .0; memo = k .1 .1 .1 .0; heads = k .1 .0; next = k .1 .1 .0; marks = refl; own = refl }) (c .before .before .before .before .before .before .before .before .before .before .before .before .before .before .before .before .before .before .before .before .before .before .before .before .before .before .before .before .before .before .before .before .before .before .before .before .before .before .before .before .before .before .before .pre .1);
+        sound = read-is-sound (s .pre .0);
+        whole = whole-in (s .args .tree) (rw (c .before .before .before .before .before .before .before .before .before .root .given .1) at (c .before .before .before .before .before .before .before .before .before .before .before .before .before .before .before .before .before .before .before .before .before .build-tree .ensures));
+        lengths = read-lengths (s .pre .0) (record { nodes = k .0; cuts = refl; gates = k .1 .1 .1 .1 .0; memo = k .1 .1 .1 .0; heads = k .1 .0; next = k .1 .1 .0; marks = refl; own = refl }) (s .pre .1);
       };
     }
 
 same-length : tie.Need-same-length
 same-length c =
-    c .before .before .before .before .before .before .before .before .before .before .before .before .before .before .before .before .before .wipe .kept .0 ∙ c .before .before .before .before .before .before .before .before .before .before .before .before .before .before .before .before .before .before .before .before .before .before .before .before .before .before .before .before .before .before .before .before .before .before .before .before .before .before .before .build .kept .0
+    c .before .before .before .before .before .before .before .before .before .before .before .before .before .before .before .before .before .wipe .kept .0 ∙ c .before .before .before .before .before .before .before .before .before .before .before .before .before .before .before .before .before .before .before .before .before .before .before .before .before .before .before .before .before .before .before .before .before .before .before .before .before .before .before .build-tree .kept .1 .0
 
 same-length-2 : tie.Need-same-length-2
 same-length-2 c = search needs
@@ -68,7 +50,7 @@ same-length-4 c = search needs
 
 same-length-5 : tie.Need-same-length-5
 same-length-5 c =
-    c .before .before .before .before .before .before .before .before .before .before .before .before .before .before .before .before .before .wipe .kept .1 .1 .1 .1 .0 ∙ c .before .before .before .before .before .before .before .before .before .before .before .before .before .before .before .before .before .before .before .before .before .before .before .before .before .before .before .before .before .before .before .before .before .before .before .before .before .before .before .build .kept .1 .0
+    c .before .before .before .before .before .before .before .before .before .before .before .before .before .before .before .before .before .wipe .kept .1 .1 .1 .1 .0 ∙ c .before .before .before .before .before .before .before .before .before .before .before .before .before .before .before .before .before .before .before .before .before .before .before .before .before .before .before .before .before .before .before .before .before .before .before .before .before .before .before .build-tree .kept .1 .1 .0
 
 same-length-6 : tie.Need-same-length-6
 same-length-6 c = search needs
@@ -81,14 +63,14 @@ same-length-8 c = search needs
 
 returns : tie.Need-returns
 returns c =
-    let k = c .before .before .before .before .before .before .before .before .before .before .before .before .before .before .before .before .before .before .before .before .before .before .before .before .before .before .before .before .before .before .before .before .before .before .before .before .before .before .before .build .kept in
-    nodes-are-full (read-is-sound (c .before .before .before .before .before .before .before .before .before .before .before .before .before .before .before .before .before .before .before .before .before .before .before .before .before .before .before .before .before .before .before .before .before .before .before .before .before .before .before .before .before .before .before .before .before .before .before .before .before .before .before .before .before .before .before .before .before .before .before .before .before .pre .0)) (c .before .before .before .before .before .before .before .before .before .before .before .before .before .before .before .before .before .wipe .ensures)
-    (record { nodes = k .0; cuts = refl; gates = k .1 .1 .1 .1 .0; memo = k .1 .1 .1 .0; heads = k .1 .0; next = k .1 .1 .0; marks = refl; own = refl })
-    (over-in (c .before .before .before .before .before .before .before .before .before .before .before .before .before .before .before .before .before .before .before .before .before .before .before .before .before .before .before .before .before .before .before .before .before .before .before .before .before .before .before .before .before .before .before .before .before .before .before .before .before .before .before .before .before .before .before .before .before .before .before .before .before .args .tree) (rw (c .before .before .before .before .before .before .before .before .before .before .before .before .before .before .before .before .before .before .before .before .before .before .before .before .before .before .before .gate .given .1) at (c .before .before .before .before .before .before .before .before .before .before .before .before .before .before .before .before .before .before .before .before .before .before .before .before .before .before .before .before .before .before .before .before .before .before .before .before .before .before .before .build .ensures))) (c .refused .ensures)
+    let s = c .before .before .before .before .before .before .before .before .before .before .before .before .before .before .before .before .before .before .before .before .before .before .before .before .before .before .before .before .before .before .before .before .before .before .before .before .before .before .before .before .before .before .before .before .before .before .before .before .before .before .before .before .before in
+    let k = c .before .before .before .before .before .before .before .before .before .before .before .before .before .before .before .before .before .before .before .before .before .before .before .before .before .before .before .before .before .before .before .before .before .before .before .before .before .before .before .build-tree .kept .1 in
+    nodes-are-full (read-is-sound (s .pre .0)) (c .before .before .before .before .before .before .before .before .before .before .before .before .before .before .before .before .before .wipe .ensures) (record { nodes = k .0; cuts = refl; gates = k .1 .1 .1 .1 .0; memo = k .1 .1 .1 .0; heads = k .1 .0; next = k .1 .1 .0; marks = refl; own = refl })
+    (over-in (s .args .tree) (rw (c .before .before .before .before .before .before .before .before .before .before .before .before .before .before .before .before .before .before .before .before .before .before .before .before .before .before .before .gate .given .1) at (c .before .before .before .before .before .before .before .before .before .before .before .before .before .before .before .before .before .before .before .before .before .before .before .before .before .before .before .before .before .before .before .before .before .before .before .before .before .before .before .build-tree .ensures))) (c .refused .ensures)
 
 same-length-9 : tie.Need-same-length-9
 same-length-9 c =
-    c .before .before .before .before .before .before .before .before .before .before .before .before .before .before .before .before .fill-cuts .kept .0 ∙ c .before .before .before .before .before .before .before .before .before .before .before .before .before .before .before .before .before .before .before .before .before .before .before .before .before .before .before .before .before .before .before .before .before .before .before .before .before .before .build .kept .0
+    c .before .before .before .before .before .before .before .before .before .before .before .before .before .before .before .before .fill-cuts .kept .0 ∙ c .before .before .before .before .before .before .before .before .before .before .before .before .before .before .before .before .before .before .before .before .before .before .before .before .before .before .before .before .before .before .before .before .before .before .before .before .before .before .build-tree .kept .1 .0
 
 same-length-10 : tie.Need-same-length-10
 same-length-10 c = search needs
@@ -101,7 +83,7 @@ same-length-12 c = search needs
 
 same-length-13 : tie.Need-same-length-13
 same-length-13 c =
-    c .before .before .before .before .before .before .before .before .before .before .before .before .before .before .before .before .fill-cuts .kept .1 .1 .1 .1 .0 ∙ c .before .before .before .before .before .before .before .before .before .before .before .before .before .before .before .before .before .before .before .before .before .before .before .before .before .before .before .before .before .before .before .before .before .before .before .before .before .before .build .kept .1 .0
+    c .before .before .before .before .before .before .before .before .before .before .before .before .before .before .before .before .fill-cuts .kept .1 .1 .1 .1 .0 ∙ c .before .before .before .before .before .before .before .before .before .before .before .before .before .before .before .before .before .before .before .before .before .before .before .before .before .before .before .before .before .before .before .before .before .before .before .before .before .before .build-tree .kept .1 .1 .0
 
 same-length-14 : tie.Need-same-length-14
 same-length-14 c = search needs
@@ -114,23 +96,17 @@ same-length-16 c = search needs
 
 returns-2 : tie.Need-returns-2
 returns-2 c =
-    let k = c .before .before .before .before .before .before .before .before .before .before .before .before .before .before .before .before .before .before .before .before .before .before .before .before .before .before .before .before .before .before .before .before .before .before .before .before .before .before .build .kept in
-    let s = c .before .before .before .before .before .before .before .before .before .before .before .before .before .before .before .before .before .before .before .before .before .before .before .before .before .before .before .before .before .before .before .before .before .before .before .before .before .before .before .before .before .before .before .before .before .before .before .before .before .before .before .before .before .before .before .before .before .before .before .before in
-    let w = whole-in (s .args .tree) (rw (c .before .before .before .before .before .before .before .before .before .before .before .before .before .before .before .before .before .before .before .before .before .before .before .before .before .before .root .given .1) at (c .before .before .before .before .before .before .before .before .before .before .before .before .before .before .before .before .before .before .before .before .before .before .before .before .before .before .before .before .before .before .before .before .before .before .before .before .before .before .build .ensures)) in
-    nodes-do-fit (read-is-sound (s .pre .0))
-    (record { nodes = k .0; cuts = refl; gates = k .1 .1 .1 .1 .0; memo = k .1 .1 .1 .0; heads = k .1 .0; next = k .1 .1 .0; marks = refl; own = refl })
-    w (c .before .before .before .before .before .before .before .before .before .before .before .before .before .before .before .before .fill-cuts .ensures _ (record { sound = read-is-sound (s .pre .0); whole = w; lengths = read-lengths (s .pre .0) (record { nodes = k .0; cuts = refl; gates = k .1 .1 .1 .1 .0; memo = k .1 .1 .1 .0; heads = k .1 .0; next = k .1 .1 .0; marks = refl; own = refl }) (s .pre .1) }))
+    let s = c .before .before .before .before .before .before .before .before .before .before .before .before .before .before .before .before .before .before .before .before .before .before .before .before .before .before .before .before .before .before .before .before .before .before .before .before .before .before .before .before .before .before .before .before .before .before .before .before .before .before .before .before in
+    let k = c .before .before .before .before .before .before .before .before .before .before .before .before .before .before .before .before .before .before .before .before .before .before .before .before .before .before .before .before .before .before .before .before .before .before .before .before .before .before .build-tree .kept .1 in
+    let w = whole-in (s .args .tree) (rw (c .before .before .before .before .before .before .before .before .before .before .before .before .before .before .before .before .before .before .before .before .before .before .before .before .before .before .root .given .1) at (c .before .before .before .before .before .before .before .before .before .before .before .before .before .before .before .before .before .before .before .before .before .before .before .before .before .before .before .before .before .before .before .before .before .before .before .before .before .before .build-tree .ensures)) in
+    nodes-do-fit (read-is-sound (s .pre .0)) (record { nodes = k .0; cuts = refl; gates = k .1 .1 .1 .1 .0; memo = k .1 .1 .1 .0; heads = k .1 .0; next = k .1 .1 .0; marks = refl; own = refl }) w
+    (c .before .before .before .before .before .before .before .before .before .before .before .before .before .before .before .before .fill-cuts .ensures _ (record { sound = read-is-sound (s .pre .0); whole = w; lengths = read-lengths (s .pre .0) (record { nodes = k .0; cuts = refl; gates = k .1 .1 .1 .1 .0; memo = k .1 .1 .1 .0; heads = k .1 .0; next = k .1 .1 .0; marks = refl; own = refl }) (s .pre .1) }))
 
 pub fill-spec : {M : Type 1} → statement M
 fill-spec =
     tie.close
     (tie.spec
-    slice-aggregate-build
-    slice-aggregate-build-2
-    array-share-prefix-sizes
-    slice-aggregate-build-3
-    slice-aggregate-build-4
-    build-requires
+    build-tree-requires
     enum-known-gate
     wipe-requires
     refused-requires
