@@ -25,6 +25,10 @@ eqb-or a b = go (eqb a b) refl
     go true h = inl (eqb-true a b h)
     go false h = inr h
 
+-- equal nodes have equal parts
+pub same-node : {e e′ : ℕ} {f f′ s s′ : Diagram} → node e f s ≡ node e′ f′ s′ → (e ≡ e′) × (f ≡ f′) × (s ≡ s′)
+same-node p = (cc, cc, cc)
+
 pub cond-same : {A : Type 0} (b : Bool) (x : A) → cond b x x ≡ x
 cond-same true x = refl
 cond-same false x = refl

@@ -4,11 +4,11 @@ use mathlib.Core.Path.{_≡_, refl, sym, ap, ap₂, _∙_, subst}
 use mathlib.Core.Logic.{_≢_, _⊎_, inl, inr, ite}
 use mathlib.Core.Bool.{Bool, true, false, cond, true≢false, false≢true}
 use mathlib.Core.List.{List, [], _∷_, _++_, map, head-eq-of-cons-eq, tail-eq-of-cons-eq}
-use Prim.Native.Nat.{suc, _≤_, suc-le-suc}
+use Prim.Native.Nat.{suc, _-_, _≤_, suc-le-suc}
 use native.Mathlib.Nat.{le-antisymm}
 use native.Mathlib.Omega.{arith}
-use lib.ListN.{length}
-use Rattle.paper.specs.Lists.{In, keep, flat, has, distinct, Once}
+use lib.ListN.{length, getD}
+use Rattle.paper.specs.Lists.{In, keep, flat, has, distinct, Once, lastOr}
 
 module _ {A : Type 0} where
   pub in-left : (x : A) (xs ys : List A) → In x xs → In x (xs ++ ys)
@@ -28,6 +28,15 @@ module _ {A : Type 0} where
       go : In x xs ⊎ In x ys → In x (y ∷ xs) ⊎ In x ys
       go (inl k) = inl (inr k)
       go (inr k) = inr k
+
+  at-end : (x y : A) (l : List A) → getD (y ∷ l) (length l) x ≡ lastOr y l
+  at-end x y [] = refl
+  at-end x y (z ∷ l) = at-end x z l
+
+  -- the last member by its place
+  pub last-is : (x : A) (l : List A) → getD l (length l - 1) x ≡ lastOr x l
+  last-is x [] = refl
+  last-is x (y ∷ l) = let q : suc (length l) - 1 ≡ length l = omega arith in ap (λ i. getD (y ∷ l) i x) q ∙ at-end x y l
 
   pub in-keep : (t : A → Bool) (x : A) (xs : List A) → In x xs → t x ≡ true → In x (keep t xs)
   in-keep t x [] k h = absurd k

@@ -1,5 +1,5 @@
 // Number 9: the lengths of what is lent.
-ghost use Prim.Native.Nat.{_+_, _/_, _≤_, max};
+ghost use Prim.Native.Nat.{_+_, _/_};
 ghost use mathlib.Core.Path.{_≡_};
 ghost use lib.ListN.{length};
 ghost use Rattle.tables.specs.Flags.{Says};

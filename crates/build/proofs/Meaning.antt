@@ -16,7 +16,7 @@ use Rattle.paper.specs.Steps.{stepFuns}
 use Rattle.paper.specs.Diagrams.{Diagram, leaf, node, eval, Ordered}
 use Rattle.algebra.specs.Operations.{subs, gateDiagrams, stepDiagrams}
 use Rattle.algebra.proofs.Base.{widen}
-use Rattle.algebra.proofs.Lists.{in-append}
+use Rattle.algebra.proofs.Lists.{in-append, last-is}
 use Rattle.algebra.proofs.Plain.{Good, canonical}
 use Rattle.algebra.proofs.Gates.{Pairs, Shows, steps-show}
 use Rattle.algebra.proofs.Rules.{gates-show}
@@ -57,18 +57,6 @@ pairs-at n (d ∷ ds) [] i p = absurd p
 pairs-at n (d ∷ ds) (F ∷ Fs) zero p = p .0
 pairs-at n (d ∷ ds) (F ∷ Fs) (suc i) p = pairs-at n ds Fs i (p .1)
 
-at-last : (x : Diagram) (ds : List Diagram) → getD ds (length ds - 1) x ≡ lastOr x ds
-at-last x [] = refl
-at-last x (d ∷ []) = refl
-at-last x (d ∷ (e ∷ ds)) = let q : suc (suc (length ds)) - 1 ≡ suc (suc (length ds) - 1) = omega arith in
-    ap (λ i. getD (d ∷ (e ∷ ds)) i x) q ∙ go x (e ∷ ds) (omega arith) ∙ at-last d (e ∷ ds)
-  where
-    go : (x : Diagram) (es : List Diagram) → 1 ≤ length es → getD es (length es - 1) x ≡ getD es (length es - 1) d
-    go x [] h = absurd (omega arith)
-    go x (e ∷ []) h = refl
-    go x (e ∷ (f ∷ es)) h = let q : suc (suc (length es)) - 1 ≡ suc (suc (length es) - 1) = omega arith in
-        rw q (go x (f ∷ es) (omega arith))
-
 module _ (n : ℕ) (t : List Gate) (b : TreeBelow n t) {G T H X : List ℕ} {root c : ℕ} (w : Whole t G T H X root c) where
   -- every number denotes an ordered, reduced diagram of the n events
   pub whole-good : (i : ℕ) → i < c + 2 → Good n 0 (den T i)
@@ -105,7 +93,7 @@ module _ (n : ℕ) (t : List Gate) (b : TreeBelow n t) {G T H X : List ℕ} {roo
   pub root-found : Found T c (lastOr (leaf false) (gateDiagrams t)) root
   root-found =
       let e : getD (gateDiagrams t) (length t - 1) (leaf false) ≡ lastOr (leaf false) (gateDiagrams t) =
-      ap (λ k. getD (gateDiagrams t) (k - 1) (leaf false)) (sym (diagrams-length t)) ∙ at-last (leaf false) (gateDiagrams t) in
+      ap (λ k. getD (gateDiagrams t) (k - 1) (leaf false)) (sym (diagrams-length t)) ∙ last-is (leaf false) (gateDiagrams t) in
       subst (λ r. Found T c (lastOr (leaf false) (gateDiagrams t)) r) (sym (w .last)) (subst (λ d. Found T c d (getD G (length t - 1) 0)) e (w .gates (length t - 1)))
 
   pub root-number : Shows n (den T root) (rootFun t)

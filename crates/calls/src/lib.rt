@@ -2,7 +2,6 @@
 use bracket::Ends;
 use listing::Listed;
 use records::Tree;
-ghost use mathlib.Core.Path.{_≡_};
 ghost use mathlib.Core.Bool.{true};
 ghost use Prim.Native.Nat.{_≤_, _/_};
 ghost use lib.ListN.{length};

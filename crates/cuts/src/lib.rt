@@ -1,7 +1,6 @@
 // The minimal cuts of every function in the root's diagram, as nodes of a table of their own. A number of that table is a cut number; its node has
 // the sets with the event in its failed branch, the sets without it in its sound branch, and no failed branch 0.
 use store::Built;
-ghost use mathlib.Core.Path.{_≡_};
 ghost use Prim.Native.Nat.{_<_, _≤_};
 ghost use lib.ListN.{length};
 ghost use Rattle.algebra.specs.Families.{cutsD};

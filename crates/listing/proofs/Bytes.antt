@@ -7,7 +7,7 @@ use Prim.Native.Nat.{ℕ, zero, suc, _+_, _-_, _*_, _≤_, _<_}
 use native.Mathlib.Decide.{ℕ-discrete}
 use native.Mathlib.Nat.{le-of-eq}
 use native.Mathlib.Omega.{arith}
-use lib.ListN.{length, getD, take, drop, set, replicate, length-append, length-map, length-drop, length-take, drop-of-length-le}
+use lib.ListN.{length, getD, take, drop, replicate, length-append, length-map, length-drop, length-take, drop-of-length-le}
 use lib.Seq.{take-all, drop-drop, getD-append-add}
 use borrow.Rule.Slice.PartMut.{putMid, midOf, postOf, put-same}
 use Rattle.paper.specs.Lists.{keep, upTo}

@@ -4,7 +4,7 @@ use mathlib.Core.Logic.{_≢_, ite}
 use mathlib.Core.Bool.{Bool, true, false, cond, Bool-discrete}
 use native.Mathlib.Decide.{ℕ-discrete}
 use Prim.Native.Nat.{ℕ, zero, suc, _≤_, _<_}
-use Rattle.paper.specs.Sets.{Set, none}
+use Rattle.paper.specs.Sets.{none}
 use Rattle.paper.specs.Functions.{Fun, fixF}
 
 -- a leaf, or: event, the branch with the event failed, the branch with it sound

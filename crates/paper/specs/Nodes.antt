@@ -1,9 +1,9 @@
 -- How many nodes a table needs: said of functions, whatever builds them.
 -- Assumes nothing.
-use mathlib.Core.Bool.{Bool, true, false}
+use mathlib.Core.Bool.{Bool}
 use mathlib.Core.List.{List, map}
 use Prim.Native.Nat.{ℕ}
-use lib.ListN.{length, take}
+use lib.ListN.{take}
 use Rattle.paper.specs.Lists.{keep, flat, distinct}
 use Rattle.paper.specs.Functions.{Fun, fixF, reach, table, table-discrete, varies}
 use Rattle.paper.specs.Trees.{Tree, events}

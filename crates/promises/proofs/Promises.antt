@@ -1,19 +1,20 @@
 -- What the numbers of a done analysis say: theorems over the contract of `analyse` alone.
 -- Assumes nothing.
-use mathlib.Core.Path.{_≡_, refl, sym, ap, _∙_, subst}
+use mathlib.Core.Path.{_≡_, sym, ap, _∙_, subst}
 use mathlib.Core.Logic.{_↔_}
 use mathlib.Core.Bool.{true, false}
 use mathlib.Core.List.{List, [], _∷_, _++_}
-use Prim.Native.Nat.{ℕ, suc, _+_, _-_, _≤_, _<_}
+use Prim.Native.Nat.{ℕ, _+_, _-_, _≤_, _<_}
 use native.Mathlib.Omega.{arith}
 use lib.ListN.{length, getD, length-append}
-use Rattle.paper.specs.Lists.{In, lastOr}
+use Rattle.paper.specs.Lists.{In}
 use Rattle.paper.specs.Sets.{Set, Within}
 use Rattle.paper.specs.Functions.{Fun}
 use Rattle.paper.specs.Trees.{Gate, Tree, events, constF, gateFun, gateFunsFrom, gateFuns, rootFun}
 use Rattle.paper.specs.Diagrams.{eval}
 use Rattle.paper.specs.Cuts.{setsOf}
 use Rattle.algebra.specs.Families.{holds}
+use Rattle.algebra.proofs.Lists.{last-is}
 use Rattle.algebra.proofs.Kind.{table-inj}
 use Rattle.algebra.proofs.Plain.{plain, Good, canonical}
 use Rattle.algebra.proofs.Without.{Tidy}
@@ -27,14 +28,6 @@ use Rattle.memory.specs.Outcome.{functionOf, familyOf, Done}
 use Rattle.memory.specs.declared.Analysis.{Analysis}
 
 -- ---- the last gate's function is the root's
-
-at-end : {A : Type 0} (x y : A) (l : List A) → getD (y ∷ l) (length l) x ≡ lastOr y l
-at-end x y [] = refl
-at-end x y (z ∷ l) = at-end x z l
-
-last-is : {A : Type 0} (x : A) (l : List A) → getD l (length l - 1) x ≡ lastOr x l
-last-is x [] = refl
-last-is x (y ∷ l) = let q : suc (length l) - 1 ≡ length l = omega arith in ap (λ i. getD (y ∷ l) i x) q ∙ at-end x y l
 
 funs-from : (gs : List Fun) (t : List Gate) → length (gateFunsFrom gs t) ≡ length gs + length t
 funs-from gs [] = omega arith

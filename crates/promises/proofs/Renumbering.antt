@@ -7,8 +7,9 @@ use mathlib.Core.List.{List}
 use Prim.Native.Nat.{ℕ, zero, suc, _+_, _-_, _≤_, _<_}
 use native.Mathlib.Omega.{arith}
 use lib.ListN.{length}
-use Rattle.paper.specs.Diagrams.{Diagram, node}
+use Rattle.paper.specs.Diagrams.{node}
 use Rattle.algebra.specs.Operations.{isNode}
+use Rattle.algebra.proofs.Base.{same-node}
 use Rattle.algebra.proofs.Kind.{table-inj}
 use Rattle.algebra.proofs.Plain.{plain}
 use Rattle.algebra.proofs.Zero.{suppressed}
@@ -34,9 +35,6 @@ found T T′ c c′ f (suc (suc i)) = go (below-or-not (suc (suc i)) (c + 2))
     go : (suc (suc i) < c + 2) ⊎ (c + 2 ≤ suc (suc i)) → (j : ℕ) × (suc (suc i) < c + 2 → (j < c′ + 2) × (den T′ j ≡ den T (suc (suc i))))
     go (inl h) = let (j, l, k, e) = f (suc (suc i)) (omega arith) h in (j, λ _. (k, e))
     go (inr h) = (0, λ l. absurd (omega arith))
-
-same-node : {e e′ : ℕ} {f f′ s s′ : Diagram} → node e f s ≡ node e′ f′ s′ → (e ≡ e′) × (f ≡ f′) × (s ≡ s′)
-same-node p = (cc, cc, cc)
 
 module _ {cut : Bool} {n : ℕ} {T T′ : List ℕ} {c c′ root root′ : ℕ} (t : Table cut n T c root) (t′ : Table cut n T′ c′ root′) (same : c′ ≡ c) (long : length T′ ≡ length T)
     (f : Match T T′ c c′) (g : Match T′ T c′ c) where

@@ -1,5 +1,4 @@
 // The bytes that a line of text stands for: two digits to a byte, and (..)xN for N times what stands between.
-ghost use mathlib.Core.Path.{_≡_};
 ghost use Prim.Native.Nat.{_≤_, _<_};
 ghost use lib.ListN.{length};
 ghost use Rattle.reading.specs.Cursors.{Inside, Moved};

@@ -11,7 +11,7 @@ use Rattle.paper.specs.Lists.{In}
 use Rattle.paper.specs.Diagrams.{Diagram, node, Reduced, mkD}
 use Rattle.algebra.specs.Operations.{subs, isNode}
 use Rattle.algebra.specs.Families.{mkZ}
-use Rattle.algebra.proofs.Base.{mk-same, mk-node}
+use Rattle.algebra.proofs.Base.{mk-same, mk-node, same-node}
 use Rattle.algebra.proofs.Subs.{subs-self, subs-trans}
 use Rattle.algebra.proofs.Without.{mkz-none, mkz-node}
 use Rattle.tables.specs.Table.{failedOf, soundOf, den}
@@ -116,9 +116,6 @@ pub part-trans : {C D : Diagram} → In C (subs D) → (E : Diagram) → Part C 
 part-trans {C} {D} h E p = record { inside = subs-trans E C D (p .inside) h; node = p .node }
 
 -- ---- one node is sought, and added where it is not there
-
-same-node : {e e′ : ℕ} {f f′ s s′ : Diagram} → node e f s ≡ node e′ f′ s′ → (e ≡ e′) × (f ≡ f′) × (s ≡ s′)
-same-node p = (cc, cc, cc)
 
 -- what a triple denotes
 abbrev target : List ℕ → ℕ → ℕ → ℕ → Diagram

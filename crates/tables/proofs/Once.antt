@@ -12,7 +12,7 @@ use Rattle.paper.specs.Diagrams.{Diagram, leaf, node, eval, Reduced}
 use Rattle.paper.specs.Sets.{none}
 use Rattle.paper.specs.Nodes.{nodesNeeded}
 use Rattle.algebra.specs.Operations.{subs, isNode}
-use Rattle.algebra.proofs.Base.{Three, below, beyond, equal, three}
+use Rattle.algebra.proofs.Base.{Three, below, beyond, equal, three, same-node}
 use Rattle.algebra.proofs.Lists.{in-append, flat-in, keep-in}
 use Rattle.algebra.proofs.Plain.{Good, stored-le, stored-all}
 use Rattle.tables.specs.Table.{failedAt, soundAt, eventOf, failedOf, soundOf, den}
@@ -20,9 +20,6 @@ use Rattle.tables.specs.Stored.{Lower, Unique}
 use Rattle.tables.specs.Lent.{Lent}
 use Rattle.tables.proofs.Den.{den-0, den-1, den-slot, den-node, den-ind}
 use Rattle.tables.proofs.Lent.{lent-lower, lent-ordered}
-
-same-node : {e e′ : ℕ} {f f′ s s′ : Diagram} → node e f s ≡ node e′ f′ s′ → (e ≡ e′) × (f ≡ f′) × (s ≡ s′)
-same-node p = (cc, cc, cc)
 
 -- a leaf or the node of a slot
 pub data Stands : ℕ → Type 0 where

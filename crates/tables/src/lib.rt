@@ -3,7 +3,7 @@
 ghost use mathlib.Core.Path.{_≡_};
 ghost use Prim.Native.Nat.{ℕ, _+_, _-_, _*_, _≤_, _<_};
 ghost use lib.ListN.{length, replicate};
-ghost use Rattle.paper.specs.Limits.{limits, mostNumbers};
+ghost use Rattle.paper.specs.Limits.{mostNumbers};
 ghost use Rattle.tables.specs.Table.{eventAt, failedAt, soundAt, eventOf, failedOf, soundOf};
 ghost use Rattle.tables.specs.Flags.{Says};
 ghost use Rattle.tables.specs.Lent.{Above, Node, Kind, Lent};

@@ -1,7 +1,6 @@
 -- The part of the memo that is used, or a memo of one place. Assumes nothing.
 use borrow.Author.Needs.{needs}
 use mathlib.Core.Path.{sym}
-use native.Mathlib.Omega.{arith}
 use lib.Seq.{length-take-le}
 use Rattle.store.proofs.Memory.{places-used, places-one}
 use Rattle.build.proofs.build.Statement.{statement}

@@ -1,6 +1,5 @@
 -- The invariant: the node at hand stands for g. Assumes nothing.
 use borrow.Author.Needs.{needs}
-use native.Mathlib.Omega.{arith}
 use Rattle.without.specs.Without.{Passed}
 use Rattle.without.proofs.Apart.{past-none, past-more, past-less}
 use Rattle.without.proofs.past.Statement.{statement}
