@@ -1,5 +1,6 @@
 // The nodes of a gate's inputs: an event's is made where it is first used, a gate's stands in the gate list.
 use least::Count;
+use paper::GATES_FROM;
 use paper::INPUTS;
 use store::Built;
 ghost use mathlib.Core.Path.{_≡_};
@@ -15,9 +16,6 @@ ghost use Rattle.store.specs.Building.{Is, Builds};
 ghost use Rattle.least.specs.Making.{Within};
 ghost use Rattle.gates.specs.Rules.{inputD};
 ghost use Rattle.gates.specs.Rows.{Own, Names, Lines};
-
-// The input that stands for gate 0.
-const GATES_FROM: u16 = 256;
 
 // An event is the node (event, 1, 0).
 fn event_node(nodes: &mut [u32], heads: &mut [u32], next: &mut [u32], count: usize, e: u32) -> Built

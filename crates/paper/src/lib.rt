@@ -1,6 +1,7 @@
 // The rules that the analyser keeps: specs/ has them as definitions, one file for each idea; here are the limits that code and definitions share.
 ghost use mathlib.Core.Path.{_≡_};
 ghost use Rattle.paper.specs.Limits.{limits, mostNumbers, billion};
+ghost use Rattle.paper.specs.Flat.{gatesFrom};
 
 // The most events, gates, inputs to one gate, and inputs in all.
 pub const EVENTS: usize = 256;
@@ -10,6 +11,9 @@ pub const GATES: usize = 512;
 pub const INPUTS: usize = 64;
 
 pub const IN_ALL: usize = 4096;
+
+// The input that stands for gate 0: an event's input is its number, and a gate's is its number with this added.
+pub const GATES_FROM: u16 = 256;
 
 // The most numbers of a table, three for each node.
 pub const TABLE: usize = 3000000;
@@ -23,6 +27,7 @@ pub struct Bounds {
     pub gates: usize,
     pub inputs: usize,
     pub in_all: usize,
+    pub gates_from: u16,
     pub table: usize,
     pub billion: u32,
 }
@@ -32,6 +37,7 @@ pub fn all_bounds() -> Bounds
     ensures gates { λ r. ⌜ r .gates ≡ limits .gates ⌝ }
     ensures inputs { λ r. ⌜ r .inputs ≡ limits .inputs ⌝ }
     ensures in_all { λ r. ⌜ r .«in_all» ≡ limits .inAll ⌝ }
+    ensures gates_from { λ r. ⌜ r .«gates_from» ≡ gatesFrom ⌝ }
     ensures table { λ r. ⌜ r .table ≡ mostNumbers ⌝ }
     ensures billion { λ r. ⌜ r .billion ≡ billion ⌝ }
 {
@@ -40,6 +46,7 @@ pub fn all_bounds() -> Bounds
         gates: GATES,
         inputs: INPUTS,
         in_all: IN_ALL,
+        gates_from: GATES_FROM,
         table: TABLE,
         billion: BILLION,
     }

@@ -1,7 +1,7 @@
 // The search for an item that is an input nowhere: the paper's number 8.
 use paper::GATES;
+use paper::GATES_FROM;
 use paper::IN_ALL;
-use rules::GATES_FROM;
 use rules::format::length as length_of;
 use rules::judge::State;
 ghost use mathlib.Core.Path.{_≡_};

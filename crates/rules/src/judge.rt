@@ -1,12 +1,12 @@
 // What a record does at a place of the reading: the paper's numbers 1 to 7.
 use crate::Answer;
-use crate::GATES_FROM;
 use crate::format::Record;
 use crate::format::decode;
 use crate::format::width;
 use paper::BILLION;
 use paper::EVENTS;
 use paper::GATES;
+use paper::GATES_FROM;
 use paper::IN_ALL;
 use paper::INPUTS;
 ghost use mathlib.Core.Path.{_≡_};

@@ -5,9 +5,6 @@ pub mod judge; // what a record does at a place of the reading: numbers 1 to 7
 ghost use mathlib.Core.Path.{_≡_};
 ghost use Rattle.rules.specs.Answers.{verdict};
 
-// The input that stands for gate 0: an event's input is its number, and a gate's is its number with this added.
-pub const GATES_FROM: u16 = 256;
-
 // What a call answers. `specs/Answers.antt` gives each case the paper's number and place.
 pub enum Answer {
     Done,

@@ -1,12 +1,12 @@
 // A tree in memory: its records one after the other, and what its bytes would be answered.
 use paper::EVENTS;
 use paper::GATES;
+use paper::GATES_FROM;
 use paper::IN_ALL;
 use records::Tree;
 use records::uses::Found;
 use records::uses::unused_in;
 use rules::Answer;
-use rules::GATES_FROM;
 use rules::format::Record;
 use rules::format::width;
 use rules::judge::State;
