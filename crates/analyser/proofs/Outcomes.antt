@@ -16,11 +16,11 @@ use Rattle.records.specs.declared.Reading.{Reading}
 use Rattle.trees.proofs.Promises.{Good, done-is-good}
 use Rattle.memory.specs.Memory.{Memory, Lengths}
 use Rattle.memory.specs.Outcome.{Refused, at}
-use Rattle.completing.specs.Completing.{CutsFilled}
-use Rattle.filling.specs.Filling.{treeIn, WasRead, Filled}
+use Rattle.analysis.specs.Completing.{CutsFilled}
+use Rattle.analysis.specs.Filling.{treeIn, WasRead, Filled}
 use Rattle.analyser.specs.Analysed.{Tried, Analysed}
 use Rattle.memory.specs.declared.Analysis.{Analysis}
-use Rattle.filling.proofs.Reading.{read-is, read-count}
+use Rattle.analysis.proofs.Reading.{read-is, read-count}
 
 -- only Done has number 0
 pub done-of : (a : Answer) → verdict a .number ≡ 0 → a ≡ Done

@@ -13,7 +13,7 @@ use Rattle.rules.specs.declared.Answer.{Answer}
 use Rattle.records.specs.declared.Tree.{Tree}
 use Rattle.memory.specs.Memory.{Memory, Lengths, AllZero, capacity}
 use Rattle.memory.specs.Outcome.{Refused, at, Done}
-use Rattle.filling.specs.Filling.{treeIn, Filled}
+use Rattle.analysis.specs.Filling.{treeIn, Filled}
 use Rattle.memory.specs.declared.Analysis.{Analysis}
 
 -- the bytes, what was lent before and after, and the answer: the first rule that is broken, or done

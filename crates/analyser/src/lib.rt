@@ -2,12 +2,12 @@
 mod lengths; // number 9
 
 use bracket::Ends;
+use judging::Written;
 use lengths::lengths_ok;
 use listing::Listed;
 use memory::Analysis;
 use records::Reading;
 use records::Tree;
-use survey::Written;
 ghost use mathlib.Core.Path.{_≡_};
 ghost use Rattle.paper.specs.Limits.{limits};
 ghost use Rattle.records.specs.Judge.{outcome};
@@ -16,7 +16,7 @@ ghost use Rattle.writing.specs.Writes.{wrote, writeOf};
 ghost use Rattle.listing.specs.Answers.{Answered};
 ghost use Rattle.bracket.specs.Bracketed.{Bracketed};
 ghost use Rattle.memory.specs.Memory.{memory};
-ghost use Rattle.filling.specs.Filling.{WasRead};
+ghost use Rattle.analysis.specs.Filling.{WasRead};
 ghost use Rattle.analyser.specs.Analysed.{Tried, Analysed};
 
 // Reads a tree from its bytes.
@@ -82,7 +82,7 @@ fn analyse_tree(
     if !lengths_ok(nodes, cuts, gates, memo, heads, next, marks, own, count) {
         return memory::refused(9, 0);
     }
-    filling::fill(tree, nodes, cuts, gates, memo, heads, next, marks, own)
+    analysis::fill(tree, nodes, cuts, gates, memo, heads, next, marks, own)
 }
 
 // Analyses a tree: its diagram in the node table, each gate's node in the gate list, its cuts in the cut table. What the lent memory

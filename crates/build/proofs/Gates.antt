@@ -18,7 +18,7 @@ use Rattle.store.specs.declared.Built.{Built}
 use Rattle.gates.specs.Rules.{valueD, stepsD}
 use Rattle.paper.specs.Flat.{inputOf, gateOf, gatesOf}
 use Rattle.build.specs.Memory.{startOf, gateAt, Plan}
-use Rattle.least.specs.Making.{Gains}
+use Rattle.atleast.specs.Making.{Gains}
 use Rattle.gates.specs.Rows.{Own}
 
 -- ---- in memory

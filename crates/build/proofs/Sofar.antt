@@ -26,10 +26,10 @@ use Rattle.store.proofs.Zeros.{zero-at, store-cleared, memo-cleared}
 use Rattle.gates.specs.Rules.{valueD, stepsD}
 use Rattle.paper.specs.Flat.{gatesOf}
 use Rattle.build.specs.Memory.{startOf, gateAt}
-use Rattle.least.specs.Making.{All, Within, Gained}
+use Rattle.atleast.specs.Making.{All, Within, Gained}
 use Rattle.build.specs.Finishing.{Areas, Sofar, Whole, TooMany, Finishes}
 use Rattle.build.specs.declared.Finish.{Finish}
-use Rattle.least.proofs.Making.{found-0, all-none, all-append, all-grown, part-more}
+use Rattle.atleast.proofs.Making.{found-0, all-none, all-append, all-grown, part-more}
 use Rattle.gates.proofs.ByKind.{value-same, steps-same}
 use Rattle.build.proofs.Gates.{gates-length, gates-next, sum-next, diagrams-next, steps-next, diagrams-length}
 

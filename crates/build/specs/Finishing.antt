@@ -11,7 +11,7 @@ use Rattle.paper.specs.Diagrams.{leaf}
 use Rattle.algebra.specs.Operations.{nodeCount, gateDiagrams, stepDiagrams}
 use Rattle.store.specs.Store.{Store}
 use Rattle.store.specs.Building.{PartOf, Found, Only, Tidy}
-use Rattle.least.specs.Making.{All, Held}
+use Rattle.atleast.specs.Making.{All, Held}
 use Rattle.build.specs.declared.Finish.{Finish}
 use Rattle.build.specs.declared.Finish.the-variants.{Complete, Over}
 

@@ -11,7 +11,7 @@ ghost use Rattle.store.specs.Memo.{Places};
 ghost use Rattle.gates.specs.Rules.{valueD, stepsD};
 ghost use Rattle.paper.specs.Flat.{gatesOf};
 ghost use Rattle.build.specs.Memory.{startOf, gateAt, Plan, Arrays};
-ghost use Rattle.least.specs.Making.{Within, Held, Gains};
+ghost use Rattle.atleast.specs.Making.{Within, Held, Gains};
 ghost use Rattle.build.specs.Finishing.{Areas, Sofar, Finishes};
 
 // All gates are built: the root's node and the count of nodes; or the gate at which the table was full.

@@ -10,7 +10,7 @@ use Rattle.paper.specs.Diagrams.{Diagram}
 use Rattle.paper.specs.Cuts.{setsOf}
 use Rattle.walk.specs.After.{toList}
 use Rattle.listing.specs.Answers.{Within}
-use Rattle.calls.specs.Rooms.{Next}
+use Rattle.followup.specs.Rooms.{Next}
 
 abbrev M : ℕ
 M = 18446744073709551616

@@ -9,7 +9,7 @@ ghost use lib.ListN.{length};
 ghost use Rattle.paper.specs.Cuts.{setsOf};
 ghost use Rattle.tables.specs.Table.{den};
 ghost use Rattle.tables.specs.Lent.{Lent};
-ghost use Rattle.calls.specs.Tops.{Held};
+ghost use Rattle.followup.specs.Tops.{Held};
 
 // The largest tables have room for 20,000 nodes.
 const NODES: usize = 20000;
@@ -39,7 +39,7 @@ fn count_cuts(cuts: &[u32], events: usize, count: usize, root: usize) -> u64
     let mut s = sets::empty();
     let mut total: u64 = 0;
     loop {
-        let r = calls::next_room(cuts, events, count, root, begin, s, &mut room);
+        let r = followup::next_room(cuts, events, count, root, begin, s, &mut room);
         total = std::num::wrapping_add_u64(total, r.count as u64);
         if r.finished {
             return total;
@@ -67,7 +67,7 @@ fn report(
         let n = count_cuts(cuts, tree.event_count, a.cut_nodes, a.cut_root);
         say(b", cuts ", n);
     }
-    let ends = calls::top(tree, nodes, a.nodes, a.root, lows, highs);
+    let ends = followup::top(tree, nodes, a.nodes, a.root, lows, highs);
     say(b", top ", ends.low);
     say(b" ", ends.high);
 }

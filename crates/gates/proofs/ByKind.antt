@@ -20,10 +20,10 @@ use Rattle.store.specs.declared.Built.the-variants.{Done, Short}
 use Rattle.store.proofs.Building.{stops-more}
 use Rattle.store.proofs.Memory.{memo-map}
 use Rattle.joins.proofs.Recursion.{right-grown}
-use Rattle.least.specs.Rules.{leastD, leastStepsD}
-use Rattle.least.specs.Making.{Row, Within, Held, Gains}
-use Rattle.least.proofs.Making.{row-map, made-seq, made-stops, part-more}
-use Rattle.combining.specs.Rules.{joinAllD, joinStepsD, kindD, kindStepsD}
+use Rattle.atleast.specs.Rules.{leastD, leastStepsD}
+use Rattle.atleast.specs.Making.{Row, Within, Held, Gains}
+use Rattle.atleast.proofs.Making.{row-map, made-seq, made-stops, part-more}
+use Rattle.gates.specs.Kinds.{joinAllD, joinStepsD, kindD, kindStepsD}
 use Rattle.gates.specs.Rules.{inputD, eventStepsD, valueD, stepsD}
 use Rattle.gates.specs.Rows.{Own, Lined}
 use Rattle.gates.proofs.Rows.{codes-long, events-tidy}

@@ -27,8 +27,8 @@ use Rattle.store.specs.declared.Built.the-variants.{Done, Short}
 use Rattle.store.proofs.Denotes.{below-or-not}
 use Rattle.algebra.proofs.Subs.{part-reduced}
 use Rattle.store.proofs.Building.{makes-more, stops-more, is-part, tidy-step}
-use Rattle.least.specs.Making.{Row, Within, Made}
-use Rattle.least.proofs.Making.{all-none, row-here, row-map, row-grown, at-map, map-long, made-here, made-one, made-seq, made-stops, stops-one, part-more}
+use Rattle.atleast.specs.Making.{Row, Within, Made}
+use Rattle.atleast.proofs.Making.{all-none, row-here, row-map, row-grown, at-map, map-long, made-here, made-one, made-seq, made-stops, stops-one, part-more}
 use Rattle.gates.specs.Rules.{inputD, eventStepsD}
 use Rattle.gates.specs.Rows.{Named, Names, Lined}
 

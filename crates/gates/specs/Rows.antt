@@ -11,9 +11,9 @@ use Rattle.paper.specs.Diagrams.{Diagram}
 use Rattle.store.specs.Building.{PartOf, Found, Stops}
 use Rattle.store.specs.declared.Built.{Built}
 use Rattle.store.specs.declared.Built.the-variants.{Done, Short}
-use Rattle.least.specs.Making.{Row, Made}
-use Rattle.least.specs.declared.Count.{Count}
-use Rattle.least.specs.declared.Count.the-variants.{To, Full}
+use Rattle.atleast.specs.Making.{Row, Made}
+use Rattle.atleast.specs.declared.Count.{Count}
+use Rattle.atleast.specs.declared.Count.the-variants.{To, Full}
 use Rattle.gates.specs.Rules.{inputD, eventStepsD}
 
 -- the inputs of one gate, after so many gates

@@ -1,5 +1,5 @@
 // The nodes of a gate's inputs: an event's is made where it is first used, a gate's stands in the gate list.
-use least::Count;
+use atleast::Count;
 use paper::GATES_FROM;
 use paper::INPUTS;
 use store::Built;
@@ -13,7 +13,7 @@ ghost use Rattle.algebra.specs.Operations.{eventD};
 ghost use Rattle.tables.specs.Table.{den};
 ghost use Rattle.store.specs.Store.{Store};
 ghost use Rattle.store.specs.Building.{Is, Builds};
-ghost use Rattle.least.specs.Making.{Within};
+ghost use Rattle.atleast.specs.Making.{Within};
 ghost use Rattle.gates.specs.Rules.{inputD};
 ghost use Rattle.gates.specs.Rows.{Own, Names, Lines};
 

@@ -1,9 +1,10 @@
 // The node of one gate: its inputs' nodes, an event made where it is first used; then these combined by the gate's kind.
 mod inputs; // the nodes of a gate's inputs
+mod kinds; // these combined by the gate's kind
 
-use combining::combined;
+use atleast::Count;
 use inputs::input_nodes;
-use least::Count;
+use kinds::combined;
 use paper::INPUTS;
 use store::Built;
 ghost use mathlib.Core.List.{map};
@@ -11,7 +12,7 @@ ghost use Prim.Native.Nat.{_≤_};
 ghost use Rattle.paper.specs.Limits.{limits};
 ghost use Rattle.paper.specs.Flat.{inputOf, gateOf};
 ghost use Rattle.tables.specs.Table.{den};
-ghost use Rattle.least.specs.Making.{Within, Held, Gains};
+ghost use Rattle.atleast.specs.Making.{Within, Held, Gains};
 ghost use Rattle.gates.specs.Rules.{valueD, stepsD};
 ghost use Rattle.gates.specs.Rows.{Own};
 

@@ -14,8 +14,8 @@ use Rattle.walk.specs.After.{toList}
 use Rattle.memory.specs.Memory.{Memory}
 use Rattle.memory.specs.Outcome as said
 use Rattle.memory.specs.declared.Analysis.{Analysis}
-use Rattle.calls.specs.Rooms.{Next}
-use Rattle.calls.proofs.Rooms.{fewer}
+use Rattle.followup.specs.Rooms.{Next}
+use Rattle.followup.proofs.Rooms.{fewer}
 use Rattle.text.specs.Lines.{cutLine, cutLines}
 use Rattle.text.specs.Places.{Front, spelled}
 use Rattle.text.specs.declared.cuts.Place.the-variants.{Start}

@@ -3,7 +3,7 @@ use memory::Analysis;
 use records::Tree;
 ghost use Rattle.text.specs.Lines.{head as headText};
 ghost use Rattle.text.specs.Places.{Front};
-ghost use Rattle.calls.specs.Tops.{Held};
+ghost use Rattle.followup.specs.Tops.{Held};
 
 mod pages; // pages.rt: the lines of the cuts, one room after another
 
@@ -60,7 +60,7 @@ fn report(
     if !pages::say_cuts(cuts, tree.event_count, a.cut_nodes, a.cut_root) {
         return;
     }
-    let ends = calls::top(tree, nodes, a.nodes, a.root, lows, highs);
+    let ends = followup::top(tree, nodes, a.nodes, a.root, lows, highs);
     say_top(ends.low, ends.high);
 }
 

@@ -32,7 +32,7 @@ fn page(
     ensures { λ r. ⌜ Page events (den (now (cuts .entry)) root) begin s (now (text .exit)) (r .text) (r .last) (r .finished) ⌝ }
 {
     let mut room = [0u8; ROOM];
-    let r = calls::next_room(cuts, events, count, root, begin, s, &mut room);
+    let r = followup::next_room(cuts, events, count, root, begin, s, &mut room);
     let used = r.used;
     let n = text::cuts::spell(&room, used, text);
     let last = r.last;

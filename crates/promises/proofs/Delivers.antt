@@ -11,11 +11,11 @@ use Rattle.listing.proofs.Join.{join-all, goes-on}
 use Rattle.memory.specs.Memory.{Memory}
 use Rattle.memory.specs.Outcome.{Done}
 use Rattle.analyser.specs.Analysed.{Analysed}
-use Rattle.completing.specs.Completing.{Sound}
+use Rattle.analysis.specs.Completing.{Sound}
 use Rattle.promises.specs.Delivers.{Exact, Faithful, Listed, Near, Delivers}
 use Rattle.promises.specs.Reasons.{Accepted}
 use Rattle.memory.specs.declared.Analysis.{Analysis}
-use Rattle.filling.proofs.Reading.{read-sound}
+use Rattle.analysis.proofs.Reading.{read-sound}
 use Rattle.promises.proofs.Promises.{root-function, gates-agree, functions-apart, families-apart}
 use Rattle.promises.proofs.OnTables.{list-takes, list-no-other, bracket-takes, bracket-encloses, own-answers, cuts-exactly, cuts-sorted, cuts-once, cuts-decide}
 use Rattle.promises.proofs.Serving.{serves, hands-on}

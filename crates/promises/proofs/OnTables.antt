@@ -33,7 +33,7 @@ use Rattle.bracket.specs.Bracketed as bracket
 use Rattle.bracket.proofs.Outcome.{encloses-built}
 use Rattle.memory.specs.Memory.{Memory, capacity}
 use Rattle.memory.specs.Outcome.{Done}
-use Rattle.completing.specs.Completing.{Sound}
+use Rattle.analysis.specs.Completing.{Sound}
 use Rattle.promises.specs.Delivers.{Own}
 use Rattle.memory.specs.declared.Analysis.{Analysis}
 use Rattle.promises.proofs.Promises.{root-function}

@@ -14,7 +14,7 @@ use Rattle.rules.specs.Format.{recordOf}
 use Rattle.rules.specs.Rules.{stepOf}
 use Rattle.records.specs.Judge.{Book, start, counts, addEvent, addGate, addInput, Outcome, accept, refuse, unusedBy, closeOf, run, outcome}
 use Rattle.records.specs.Memory.{memory, inMemory}
-use Rattle.survey.specs.Bytes.{bytesOf, told}
+use Rattle.judging.specs.Bytes.{bytesOf, told}
 use Rattle.writing.specs.Writes.{Wrote, wrote, writeOf}
 use Rattle.records.specs.Trees.{Lawful}
 use Rattle.rules.specs.declared.Answer.{Answer}

@@ -12,17 +12,17 @@ use Rattle.rules.specs.Format.{recordOf}
 use Rattle.paper.specs.Flat.{gatesFrom}
 use Rattle.records.specs.Judge.{Book, start, counts, addEvent, addGate, addInput, accept, outcome}
 use Rattle.records.specs.Memory.{memory}
-use Rattle.survey.specs.Bytes.{bytesOf, chanceAt, told}
-use Rattle.survey.specs.Inner.{Own}
+use Rattle.judging.specs.Bytes.{bytesOf, chanceAt, told}
+use Rattle.judging.specs.Inner.{Own}
 use Rattle.records.specs.declared.Tree.{Tree}
 use Rattle.rules.specs.declared.judge.State.{State}
 use Rattle.rules.proofs.Cases.{if-elim}
-use Rattle.survey.proofs.Coding.{own-unknown, own-end, own-event, own-and, own-or, own-least, own-event-input, own-gate-input}
+use Rattle.judging.proofs.Coding.{own-unknown, own-end, own-event, own-and, own-or, own-least, own-event-input, own-gate-input}
 use Rattle.records.proofs.Pad.{length-▷}
 use Rattle.rules.proofs.Steps.{OnEvent, OnGate, OnInput, codeOf}
-use Rattle.survey.proofs.Rest.{nextRecord, which, is-event, is-end, tag, gate-told}
+use Rattle.judging.proofs.Rest.{nextRecord, which, is-event, is-end, tag, gate-told}
 use Rattle.trees.proofs.Telling.{Tells, tells-start, tells-event, tells-gate, tells-input, tells-all, event-told, input-told}
-use Rattle.survey.proofs.Following.{Following, follow-start, follow-event, follow-gate, follow-input, at-event, at-gate, at-input, read-back}
+use Rattle.judging.proofs.Following.{Following, follow-start, follow-event, follow-gate, follow-input, at-event, at-gate, at-input, read-back}
 use Rattle.records.proofs.Runs.{accepted-keeps}
 
 -- each record of a tree is read as itself

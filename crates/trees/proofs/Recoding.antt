@@ -8,7 +8,7 @@ use lib.ListN.{length, getD, drop}
 use borrow.Author.Tests.{lt-ltb, le-ltb}
 use Rattle.rules.specs.Format.{byte, recordOf, widthOf, encode}
 use Rattle.paper.specs.Flat.{gatesFrom}
-use Rattle.survey.specs.Bytes.{inputRecord, gateRecord}
+use Rattle.judging.specs.Bytes.{inputRecord, gateRecord}
 use Rattle.rules.specs.declared.format.Record.{Record}
 use Rattle.rules.specs.declared.format.Record.the-variants.{Missing, Unknown, Short, Event, Gate, EventInput, GateInput, End}
 use Rattle.rules.proofs.Cases.{front, known}

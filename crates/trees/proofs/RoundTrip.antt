@@ -13,7 +13,7 @@ use Rattle.rules.specs.Format.{recordOf, widthOf, encode}
 use Rattle.rules.specs.Rules.{stepOf}
 use Rattle.records.specs.Judge.{Book, start, counts, _▷_, addEvent, addGate, addInput, accept, refuse, run, outcome}
 use Rattle.records.specs.Memory.{pad, noEvent, memory}
-use Rattle.survey.specs.Bytes.{inputRecord, bytesOf}
+use Rattle.judging.specs.Bytes.{inputRecord, bytesOf}
 use Rattle.writing.specs.Writes.{writeOf, wrote}
 use Rattle.records.specs.declared.Event.{Event as EventOf}
 use Rattle.rules.specs.declared.Answer.the-variants.{Done}
@@ -26,8 +26,8 @@ use Rattle.records.proofs.Pad.{length-▷, pad-getD}
 use Rattle.rules.proofs.Steps.{Sound, sound-step}
 use Rattle.records.proofs.Keeping.{Kept, kept-start, kept-event, kept-gate, kept-input}
 use Rattle.records.proofs.Runs.{run-event, run-gate, run-input, run-close, run-refused, close-is}
-use Rattle.survey.proofs.Rest.{eventRecord, gateRecordAt, inputRecordAt, restAt, rest-event, rest-input, rest-gate, rest-end}
-use Rattle.survey.proofs.Following.{follow-start}
+use Rattle.judging.proofs.Rest.{eventRecord, gateRecordAt, inputRecordAt, restAt, rest-event, rest-input, rest-gate, rest-end}
+use Rattle.judging.proofs.Following.{follow-start}
 use Rattle.writing.proofs.Writing.{writes-done}
 use Rattle.trees.proofs.Recoding.{Recoded, recode, input-again}
 

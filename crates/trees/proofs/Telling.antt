@@ -12,14 +12,14 @@ use Rattle.paper.specs.Lists.{sum}
 use Rattle.paper.specs.Flat.{gatesFrom}
 use Rattle.records.specs.Judge.{Book, start, _▷_, addEvent, addGate, addInput}
 use Rattle.records.specs.Memory.{pad, tabulate, noEvent, memory}
-use Rattle.survey.specs.Bytes.{chanceAt, toldLeast, told}
+use Rattle.judging.specs.Bytes.{chanceAt, toldLeast, told}
 use Rattle.records.specs.declared.Tree.{Tree}
 use Rattle.rules.specs.declared.format.Record.{Record}
 use Rattle.rules.specs.declared.format.Record.the-variants.{Event}
 use Rattle.rules.proofs.Cases.{if-elim}
 use Rattle.rules.proofs.Steps.{codeOf}
 use Rattle.records.proofs.Pad.{length-▷, tabulate-▷}
-use Rattle.survey.proofs.Rest.{eventRecord, inputRecordAt}
+use Rattle.judging.proofs.Rest.{eventRecord, inputRecordAt}
 
 -- what the record of an event and that of an input tell
 module _ (t : Tree) where

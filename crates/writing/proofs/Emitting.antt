@@ -11,19 +11,19 @@ use Rattle.rules.specs.Format.{widthOf, encode}
 use Rattle.rules.specs.Rules.{admitOf, stepOf}
 use Rattle.records.specs.Judge.{counts, start, accept, refuse}
 use Rattle.rules.specs.States.{pastEvent, pastGate, pastInput}
-use Rattle.survey.specs.Bytes.{bytesOf}
-use Rattle.survey.specs.Inner.{Own, Accepted}
+use Rattle.judging.specs.Bytes.{bytesOf}
+use Rattle.judging.specs.Inner.{Own, Accepted}
 use Rattle.rules.specs.declared.Answer.{Answer}
 use Rattle.records.specs.declared.Tree.{Tree}
 use Rattle.rules.specs.declared.format.Record.{Record}
 use Rattle.rules.specs.declared.judge.State.{State}
 use Rattle.rules.specs.declared.judge.Step.{Step}
 use Rattle.rules.specs.declared.judge.Step.the-variants.{AddEvent, AddGate, AddInput, Close, Refused}
-use Rattle.survey.proofs.Coding.{encode-width}
-use Rattle.survey.proofs.Rest.{nextRecord}
+use Rattle.judging.proofs.Coding.{encode-width}
+use Rattle.judging.proofs.Rest.{nextRecord}
 use Rattle.records.proofs.Runs.{Running, running-start, running-sound, running-event, running-gate, running-input, running-refused}
 use Rattle.rules.proofs.Steps.{Sound}
-use Rattle.survey.proofs.Following.{Following, follow-start, follow-step, follow-event, follow-gate, follow-input, starts-with, read-back, room-for, end-length}
+use Rattle.judging.proofs.Following.{Following, follow-start, follow-step, follow-event, follow-gate, follow-input, starts-with, read-back, room-for, end-length}
 
 -- the room as the code leaves it where its rest from `at` on was lent, and came back as ys
 abbrev pub lent : List ℕ → ℕ → List ℕ → List ℕ

@@ -9,9 +9,9 @@ use borrow.Author.Tests.{lt-ltb, le-ltb}
 use Rattle.paper.specs.Limits.{limits}
 use Rattle.rules.specs.Answers.{verdict}
 use Rattle.records.specs.Judge.{Outcome, accept, refuse, answerOf, outcome}
-use Rattle.survey.specs.Bytes.{bytesOf}
+use Rattle.judging.specs.Bytes.{bytesOf}
 use Rattle.writing.specs.Writes.{writeOf, wrote}
-use Rattle.survey.specs.Inner.{Accepted, Surveyed}
+use Rattle.judging.specs.Inner.{Accepted, Surveyed}
 use Rattle.rules.specs.declared.Answer.{Answer}
 use Rattle.rules.specs.declared.Answer.the-variants.{Done, Cut, UnknownKind, OutOfPlace, Count, Threshold, Reference, Chance, Unused, Room}
 use Rattle.records.specs.declared.Tree.{Tree}

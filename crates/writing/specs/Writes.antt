@@ -6,7 +6,7 @@ use lib.Dec.{ltb}
 use Rattle.paper.specs.Limits.{Limits}
 use Rattle.rules.specs.Choice.{if_then_else_}
 use Rattle.records.specs.Judge.{accept, refuse, outcome}
-use Rattle.survey.specs.Bytes.{bytesOf}
+use Rattle.judging.specs.Bytes.{bytesOf}
 use Rattle.rules.specs.declared.Answer.{Answer}
 use Rattle.rules.specs.declared.Answer.the-variants.{Done, Room}
 use Rattle.records.specs.declared.Tree.{Tree}

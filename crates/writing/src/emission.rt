@@ -1,4 +1,6 @@
 // A tree's records, written.
+use judging::tree_record;
+use judging::within;
 use records::Tree;
 use rules::format::Record;
 use rules::format::width;
@@ -8,15 +10,13 @@ use rules::judge::begin;
 use rules::judge::past_event;
 use rules::judge::past_gate;
 use rules::judge::past_input;
-use survey::tree_record;
-use survey::within;
 ghost use mathlib.Core.Path.{_≡_};
 ghost use mathlib.Core.List.{_++_};
 ghost use Prim.Native.Nat.{_≤_};
 ghost use lib.ListN.{length, drop};
 ghost use Rattle.rules.specs.Format.{widthOf, encode};
-ghost use Rattle.survey.specs.Bytes.{bytesOf};
-ghost use Rattle.survey.specs.Inner.{Accepted};
+ghost use Rattle.judging.specs.Bytes.{bytesOf};
+ghost use Rattle.judging.specs.Inner.{Accepted};
 
 fn put_gate(b: &mut [u8], kind: u8, k: u8, n: u8)
     requires { ⌜ widthOf (Record.Gate kind k n) ≤ length (now b) ⌝ }

@@ -2,12 +2,12 @@
 mod emission; // a tree's records, written
 
 use emission::emit;
+use judging::Written;
+use judging::survey;
+use judging::unwritten;
 use records::Tree;
 use rules::Answer;
 use rules::number;
-use survey::Written;
-use survey::survey;
-use survey::unwritten;
 ghost use mathlib.Core.Path.{_≡_};
 ghost use Rattle.paper.specs.Limits.{limits};
 ghost use Rattle.writing.specs.Writes.{writeOf, wrote};

@@ -1,7 +1,7 @@
 -- `counts::analysed` meets its contract. Assumes nothing.
 use borrow.Author.Needs.{needs}
 use native.Mathlib.Omega.{arith}
-use Rattle.calls.proofs.Held.{held}
+use Rattle.followup.proofs.Held.{held}
 use Rattle.counts.proofs.analysed.Statement.{statement}
 use Rattle.counts.proofs.analysed.Tie as tie
 

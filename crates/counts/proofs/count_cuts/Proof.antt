@@ -5,7 +5,7 @@ use mathlib.Core.Path.{refl, sym}
 use lib.ListN.{length}
 use Rattle.tables.specs.Table.{den}
 use Rattle.walk.specs.After.{toList}
-use Rattle.calls.proofs.Rooms.{fewer}
+use Rattle.followup.proofs.Rooms.{fewer}
 use Rattle.counts.proofs.Counting.{Counted, count-none, count-more, count-end}
 use Rattle.counts.proofs.count_cuts.Statement.{statement}
 use Rattle.counts.proofs.count_cuts.Tie as tie

@@ -1,7 +1,7 @@
 -- `matticklet::answer` meets its contract. Assumes nothing.
 use borrow.Author.Needs.{needs}
 use native.Mathlib.Omega.{arith}
-use Rattle.calls.proofs.Held.{held}
+use Rattle.followup.proofs.Held.{held}
 use Rattle.matticklet.proofs.answer.Statement.{statement}
 use Rattle.matticklet.proofs.answer.Tie as tie
 

@@ -5,10 +5,10 @@ use Prim.Native.Nat.{_-_}
 use native.Mathlib.Omega.{arith}
 use denote.Ref.{now}
 use lib.ListN.{length}
-use Rattle.survey.specs.Bytes.{bytesOf}
+use Rattle.judging.specs.Bytes.{bytesOf}
 use Rattle.rules.proofs.Cases.{width-small}
 use Rattle.records.proofs.Runs.{running-bounded}
-use Rattle.survey.proofs.Following.{next-is}
+use Rattle.judging.proofs.Following.{next-is}
 use Rattle.writing.proofs.Emitting.{Emitting, emit-start, emit-inside, emit-room, emit-sound, emit-event, emit-gate, emit-input, emit-done, emit-never, emit-same}
 use borrow.Author.Needs.{needs}
 use Rattle.writing.proofs.emission.emit.Statement.{statement}

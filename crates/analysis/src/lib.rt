@@ -1,0 +1,81 @@
+// The two tables of a tree that was read, in memory whose lengths are right: 10, 11, or done.
+use build::Finish;
+use memory::Analysis;
+use records::Tree;
+use store::Built;
+ghost use Rattle.memory.specs.Memory.{memory, Lengths};
+ghost use Rattle.analysis.specs.Completing.{Grounded, FillsCuts};
+ghost use Rattle.analysis.specs.Filling.{treeIn, WasRead, Filled};
+
+// The cut table over a finished node table. Where the cuts do not fit all becomes zero; otherwise the memo and the work areas do.
+fn fill_cuts(
+    nodes: &mut [u32],
+    cuts: &mut [u32],
+    gates: &mut [u32],
+    memo: &mut [u32],
+    heads: &mut [u32],
+    next: &mut [u32],
+    marks: &mut [u32],
+    own: &mut [u32],
+    root: u32,
+    count: usize,
+) -> Analysis
+    requires { ⌜ Grounded (memory (now nodes) (now cuts) (now gates) (now memo) (now heads) (now next) (now marks) (now own)) root count ⌝ }
+    ensures { λ r. ⌜ FillsCuts (memory (now (nodes .entry)) (now (cuts .entry)) (now (gates .entry)) (now (memo .entry)) (now (heads .entry)) (now (next .entry)) (now (marks .entry)) (now (own .entry))) root count (memory (now (nodes .exit)) (now (cuts .exit)) (now (gates .exit)) (now (memo .exit)) (now (heads .exit)) (now (next .exit)) (now (marks .exit)) (now (own .exit))) r ⌝ }
+{
+    match cuts::build_cuts(cuts, heads, next, memo, marks, own, nodes, root as usize) {
+        Built::Short(full) => {
+            memory::wipe(nodes, cuts, gates, memo, heads, next, marks, own);
+            memory::refused(11, 0)
+        }
+        Built::Done(cut_root, cut_nodes) => {
+            memory::settle(memo, heads, next, marks, own);
+            Analysis {
+                number: 0,
+                place: 0,
+                nodes: count,
+                cut_nodes,
+                root: root as usize,
+                cut_root: cut_root as usize,
+            }
+        }
+    }
+}
+
+// The node table first, then the cut table over it.
+pub fn fill(
+    tree: Tree,
+    nodes: &mut [u32],
+    cuts: &mut [u32],
+    gates: &mut [u32],
+    memo: &mut [u32],
+    heads: &mut [u32],
+    next: &mut [u32],
+    marks: &mut [u32],
+    own: &mut [u32],
+) -> Analysis
+    requires { ⌜ WasRead tree ⌝ }
+    requires { ⌜ Lengths (tree .«gate_count») (memory (now nodes) (now cuts) (now gates) (now memo) (now heads) (now next) (now marks) (now own)) ⌝ }
+    ensures { λ r. ⌜ Filled (treeIn tree) (memory (now (nodes .entry)) (now (cuts .entry)) (now (gates .entry)) (now (memo .entry)) (now (heads .entry)) (now (next .entry)) (now (marks .entry)) (now (own .entry))) (memory (now (nodes .exit)) (now (cuts .exit)) (now (gates .exit)) (now (memo .exit)) (now (heads .exit)) (now (next .exit)) (now (marks .exit)) (now (own .exit))) r ⌝ }
+{
+    match build::build_tree(tree, nodes, heads, next, memo, gates) {
+        Finish::Over(gate) => {
+            memory::wipe(nodes, cuts, gates, memo, heads, next, marks, own);
+            memory::refused(10, 0)
+        }
+        Finish::Complete(root, used) => {
+            fill_cuts(
+                nodes,
+                cuts,
+                gates,
+                memo,
+                heads,
+                next,
+                marks,
+                own,
+                root,
+                used,
+            )
+        }
+    }
+}

@@ -1,2 +1,0 @@
--- Inputs joined, and a gate by its kind, as diagrams.
-pub mod Rules

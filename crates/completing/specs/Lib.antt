@@ -1,2 +1,0 @@
--- A finished node table, and what comes of it.
-pub mod Completing
