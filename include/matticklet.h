@@ -105,10 +105,14 @@ struct matticklet_analysis {
 /* Analyses a tree: 1 to 8, then 9, then 10, then 11. Lengths, otherwise 9:
  *   nodes, cuts               a multiple of 3, at most MATTICKLET_TABLE_NUMBERS
  *   gates                     at least the tree's number of gates
- *   memo                      a multiple of 4, also 0; a longer one is quicker
+ *   memo                      a multiple of 4, also 0
  *   heads, next, marks, own   each at least the larger capacity of the two tables, plus 2
  * 1 to 9 change nothing; 10 and 11 leave zero in all that was lent, to the last number. Done: nodes holds the diagram of all gates, cuts that
- * of the root's minimal cuts, gates the node of each gate, each with zeros behind; memo and work areas are zero. */
+ * of the root's minimal cuts, gates the node of each gate, each with zeros behind; memo and work areas are zero.
+ *
+ * Which lengths to choose: no answer depends on the memo, but the time does. Four numbers for each node that the tree needs are best, or half as
+ * many; longer ones cost their clearing. A memo of 0 is allowed and can take time exponential in the tree: it is for proofs, not for use. All
+ * that is lent is cleared, to the last number, so lend tables that fit the tree, not the largest allowed. */
 void matticklet_analyse(const uint8_t *bytes, size_t bytes_length, uint32_t *nodes, size_t nodes_length,
                         uint32_t *cuts, size_t cuts_length, uint32_t *gates, size_t gates_length,
                         uint32_t *memo, size_t memo_length, uint32_t *heads, size_t heads_length,
@@ -117,6 +121,7 @@ void matticklet_analyse(const uint8_t *bytes, size_t bytes_length, uint32_t *nod
 
 struct matticklet_listing {
     uint64_t number;   /* 0, 12, 13 or 14 */
+    uint64_t place;    /* 0 */
     uint64_t cuts;     /* written */
     uint64_t used;     /* bytes of the room */
     uint64_t finished; /* 1 exactly if no cut comes after `last`; 0 in a refusal */
@@ -126,7 +131,9 @@ struct matticklet_listing {
 /* Lists the sets of a cut diagram of so many events, its table, its stated count of nodes, and its root: from the beginning (`after` is then not
  * looked at, but must be there), or those after the set `after`. "After the empty set" is not the beginning: that set is the last of all.
  * 12, then 13, then 14. Done: as many whole cuts as fit stand at the front of room, in order, a cut as the bytes 21 e for each member in rising
- * order and then 22; the room behind stays as it was. A refusal changes nothing. To go on, hand over a done answer's `last` as `after`. */
+ * order and then 22; the room behind stays as it was. A refusal changes nothing. To go on, hand over a done answer's `last` as `after`.
+ * `begin` is a `bool` of C: 0 or 1, and no other value may be handed over. Each call judges all stated nodes for 12 before it lists, so lend rooms of
+ * 64 KiB or more, and larger ones for larger tables; no cut has more than 513 bytes. */
 void matticklet_list(const uint32_t *cuts, size_t cuts_length, size_t events, size_t count, size_t root, bool begin,
                      const uint64_t after[MATTICKLET_SET_WORDS], uint8_t *room, size_t room_length,
                      struct matticklet_listing *answer);
@@ -138,6 +145,7 @@ enum {
 
 struct matticklet_ends {
     uint64_t number; /* 0, 7, 9 or 12 */
+    uint64_t place;  /* 0 */
     uint64_t low;    /* billionths; 0 in a refusal */
     uint64_t high;
 };

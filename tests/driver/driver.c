@@ -182,7 +182,7 @@ static void list_call(void)
     size_t events = number(), count = number(), root = number();
     bool begin = number() != 0;
     struct area *after = area(8), *room = area(1);
-    struct area *answer = answer_area(8);
+    struct area *answer = answer_area(9);
     struct matticklet_listing *a = contents(answer);
     matticklet_list(contents(cuts), cuts->length, events, count, root, begin, contents(after), contents(room), room->length, a);
     if (spoiled == LIST && a->number == MATTICKLET_DONE && a->cuts > 3)
@@ -196,7 +196,7 @@ static void bracket_call(void)
     struct area *nodes = area(4);
     size_t events = number(), count = number(), root = number();
     struct area *chances = area(4), *lows = area(4), *highs = area(4);
-    struct area *answer = answer_area(3);
+    struct area *answer = answer_area(4);
     struct matticklet_ends *a = contents(answer);
     matticklet_bracket(contents(nodes), nodes->length, events, count, root, contents(chances), chances->length, contents(lows),
                        lows->length, contents(highs), highs->length, a);

@@ -10,11 +10,6 @@ use borrow.Author.Tests.{eqb-true, eq-eqb, ne-eqb, ltb-true, ltb-false}
 use Rattle.paper.specs.Sets.{Set, put}
 use Rattle.paper.specs.Diagrams.{Diagram, leaf, node, eval, Ordered, Reduced, mkD, Diagram-discrete}
 
--- a Boolean is true or false
-pub two : (b : Bool) → (b ≡ true) ⊎ (b ≡ false)
-two true = inl refl
-two false = inr refl
-
 pub eqb-same : (e : ℕ) → eqb e e ≡ true
 eqb-same e = eq-eqb e e refl
 

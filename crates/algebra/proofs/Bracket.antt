@@ -1,10 +1,10 @@
 -- The bracket encloses the exact sum and lies close to it.
 -- Assumes nothing.
 use mathlib.Core.Path.{_≡_, refl, sym, ap, ap₂, _∙_, fun-ext}
-use mathlib.Core.Bool.{Bool, true, false, cond, _||_, false≢true}
+use mathlib.Core.Bool.{Bool, true, false, cond, false≢true, _||_}
 use mathlib.Core.List.{List, [], _∷_, _++_, map}
 use Prim.Native.Nat.{ℕ, zero, suc, _+_, _*_, _-_, _/_, _^_, _≤_, _<_}
-use native.Mathlib.Nat.{mul-le-mul-left, mul-le-mul-right, mul-lt-mul-of-pos-right, le-of-mul-le-mul-right, lt-of-mul-lt-mul-right, div-mul-le-self, lt-div-mul-add, div-le-of-le-mul, div-lt-iff-lt-mul, pow-suc, pow-zero, add-sub-of-le}
+use native.Mathlib.Nat.{mul-le-mul-left, mul-le-mul-right, mul-lt-mul-of-pos-right, le-of-mul-le-mul-right, lt-of-mul-lt-mul-right, div-mul-le-self, lt-div-mul-add, pow-suc, pow-zero, add-sub-of-le}
 use native.Mathlib.Omega.{arith}
 use lib.Dec.{eqb}
 use borrow.Author.Tests.{ne-eqb}
@@ -133,11 +133,6 @@ module _ (D : ℕ) (a : ℕ → ℕ) where
     where
       r : List Set
       r = allSets k (suc m)
-
-  total-leaf : (m : ℕ) (c : Bool) → total D a 0 m (eval (leaf c)) * D ≡ cond c D 0
-  unfolding total
-  total-leaf m true = omega arith
-  total-leaf m false = omega arith
 
 -- what holds of the two numbers of d, of k events from m on
 pub record Close (D : ℕ) (a : ℕ → ℕ) (k m : ℕ) (d : Diagram) : Type 0 where
@@ -279,24 +274,3 @@ module _ (D : ℕ) (a : ℕ → ℕ) (D0 : 0 < D) where
       let c = close-from (suc k) 0 (suc k) (omega arith) h d o in
       divide D k (total D a (suc k) 0 (eval d)) (standing (suc k) 0 d) (low D a d) (high D a d) D0
       (c .above-low) (c .below-high) (c .near-low) (c .near-high) (c .nearer-low) (c .nearer-high)
-
--- ---- the numbers stay within D, and what is divided within D * D + D
-
-module _ (D : ℕ) (a : ℕ → ℕ) (D0 : 0 < D) where
-  mixed : (x l₁ l₂ : ℕ) → x ≤ D → l₁ ≤ D → l₂ ≤ D → x * l₁ + (D - x) * l₂ ≤ D * D
-  mixed x l₁ l₂ h u v = omega (arith, mul-le-mul-left x u, mul-le-mul-left (D - x) v, ap (λ n. n * D) (add-sub-of-le h))
-
-  pub low-le : (m n : ℕ) → ((i : ℕ) → i < n → a i ≤ D) → (d : Diagram) → Ordered m n d → low D a d ≤ D
-  low-le m n h (leaf true) o = omega arith
-  low-le m n h (leaf false) o = omega arith
-  low-le m n h (node e f s) o =
-      let u = mixed (a e) (low D a f) (low D a s) (h e (o .1)) (low-le (suc e) n h f (o .2)) (low-le (suc e) n h s (o .3)) in
-      div-le-of-le-mul D (omega arith)
-
-  pub high-le : (m n : ℕ) → ((i : ℕ) → i < n → a i ≤ D) → (d : Diagram) → Ordered m n d → high D a d ≤ D
-  high-le m n h (leaf true) o = omega arith
-  high-le m n h (leaf false) o = omega arith
-  high-le m n h (node e f s) o =
-      let u = mixed (a e) (high D a f) (high D a s) (h e (o .1)) (high-le (suc e) n h f (o .2)) (high-le (suc e) n h s (o .3)) in
-      let q : high D a (node e f s) < suc D = div-lt-iff-lt-mul D0 .1 (omega arith) in
-      omega arith

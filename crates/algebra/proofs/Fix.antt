@@ -1,6 +1,6 @@
 -- Fixing the first event of an ordered diagram.
 -- Assumes nothing.
-use mathlib.Core.Path.{_≡_, refl, sym, ap, _∙_, subst}
+use mathlib.Core.Path.{_≡_, refl, sym, subst}
 use mathlib.Core.Logic.{_⊎_, inl, inr}
 use mathlib.Core.Bool.{Bool, true, false, cond}
 use Prim.Native.Nat.{ℕ, suc, _≤_, _<_}
@@ -10,7 +10,7 @@ use borrow.Author.Tests.{ne-eqb, eqb-false}
 use Rattle.paper.specs.Sets.{Set, put}
 use Rattle.paper.specs.Diagrams.{Diagram, leaf, node, eval, Ordered, Reduced, mkD}
 use Rattle.algebra.specs.Operations.{fixD}
-use Rattle.algebra.proofs.Base.{eqb-or, eqb-same, put-same, put-other, mk-same, mk-node, mk-cases, widen, cond-same, cond-all, cond-map}
+use Rattle.algebra.proofs.Base.{eqb-or, eqb-same, put-same, put-other, mk-same, mk-node, widen, cond-same, cond-all, cond-map}
 
 -- events below a diagram's own do not matter to it
 pub eval-put : (m n : ℕ) (d : Diagram) (b : Bool) (v : Set) → Ordered (suc m) n d → eval d (put m b v) ≡ eval d v
@@ -71,12 +71,6 @@ mk-fix m n d o r = go d (top m n d o) r
     go : (d : Diagram) → Top m n d → Reduced d → mkD m (fixD m true d) (fixD m false d) ≡ d
     go d (at f s h x y) r = rw (fix-at m true f s, fix-at m false f s) (mk-node m f s (r .0))
     go d (above d′ x) r = rw (fix-above m n true d′ x, fix-above m n false d′ x) (mk-same m d′ d′ refl)
-
--- and what was made is taken apart
-pub fix-mk : (m n : ℕ) (b : Bool) (f s : Diagram) → Ordered (suc m) n f → Ordered (suc m) n s → fixD m b (mkD m f s) ≡ cond b f s
-fix-mk m n b f s x y = mk-cases (λ d. fixD m b d ≡ cond b f s) m f s
-    (λ h. fix-above m n b f x ∙ sym (cond-same b f) ∙ ap (cond b f) h)
-    (λ h. fix-at m b f s)
 
 -- no event is left: a leaf
 pub at-end : (m n : ℕ) (d : Diagram) → n ≤ m → Ordered m n d → (c : Bool) × (d ≡ leaf c)

@@ -260,7 +260,7 @@ more-least k c = go (leb k c) refl
     go true h = rw h
     go false h = rw h (lt-leb (suc k) c (omega (arith, leb-false k c h)))
 
-count-le : (Fs : List Fun) (v : Set) → countFails Fs v ≤ length Fs
+pub count-le : (Fs : List Fun) (v : Set) → countFails Fs v ≤ length Fs
 count-le [] v = omega arith
 count-le (F ∷ Fs) v = go (F v) (count-le Fs v)
   where

@@ -2,16 +2,16 @@
 -- Assumes nothing.
 use mathlib.Core.Path.{_≡_, refl, sym, ap₂, _∙_}
 use mathlib.Core.Logic.{_≢_}
-use mathlib.Core.Bool.{Bool, true, false, cond, Bool·beq, _&&_, _||_}
+use mathlib.Core.Bool.{Bool, true, false, cond, Bool·beq}
 use Prim.Native.Nat.{ℕ, zero, suc, _+_}
 use native.Mathlib.Omega.{arith}
 use borrow.Author.Tests.{lt-ltb, le-ltb}
 use Rattle.paper.specs.Sets.{Set}
 use Rattle.paper.specs.Steps.{join}
 use Rattle.paper.specs.Diagrams.{Diagram, leaf, node, eval, Ordered, Reduced, mkD}
-use Rattle.algebra.specs.Operations.{fixD, joinD, andD, orD}
+use Rattle.algebra.specs.Operations.{fixD, joinD}
 use Rattle.algebra.proofs.Base.{mk-same, mk-node, eval-mk, reduced-mk, ordered-mk, cond-map}
-use Rattle.algebra.proofs.Fix.{Top, at, above, top, fix-at, fix-above, fix-mk, ordered-fix, reduced-fix, eval-top, at-end}
+use Rattle.algebra.proofs.Fix.{Top, at, above, top, fix-at, fix-above, ordered-fix, reduced-fix, eval-top, at-end}
 
 pub join-leaf : (z c : Bool) (d : Diagram) → joinD z d (leaf c) ≡ cond (Bool·beq c z) (leaf z) d
 join-leaf true true (leaf true) = refl
@@ -89,47 +89,3 @@ joined-from z (suc k) m n q a b oa ob ra rb =
           eval-mk m x y v ∙ ap₂ (cond (v m)) (half true .value v) (half false .value v)
           ∙ sym (join-cond z (v m) (eval (fixD m true a) v) (eval (fixD m false a) v) (eval (fixD m true b) v) (eval (fixD m false b) v)));
     }
-
-module _ (n : ℕ) (a b : Diagram) (oa : Ordered 0 n a) (ob : Ordered 0 n b) (ra : Reduced a) (rb : Reduced b) where
-  joined : (z : Bool) → Joined z 0 n a b
-  joined z = joined-from z n 0 n (omega arith) a b oa ob ra rb
-
-  pub and-value : (v : Set) → eval (andD a b) v ≡ (eval a v && eval b v)
-  and-value v = joined false .value v ∙ go (eval a v) (eval b v)
-    where
-      go : (x y : Bool) → join false x y ≡ (x && y)
-      go true y = refl
-      go false y = refl
-
-  pub and-ordered : Ordered 0 n (andD a b)
-  and-ordered = joined false .ordered
-
-  pub and-reduced : Reduced (andD a b)
-  and-reduced = joined false .reduced
-
-  pub or-value : (v : Set) → eval (orD a b) v ≡ (eval a v || eval b v)
-  or-value v = joined true .value v ∙ go (eval a v) (eval b v)
-    where
-      go : (x y : Bool) → join true x y ≡ (x || y)
-      go true y = refl
-      go false y = refl
-
-  pub or-ordered : Ordered 0 n (orD a b)
-  or-ordered = joined true .ordered
-
-  pub or-reduced : Reduced (orD a b)
-  or-reduced = joined true .reduced
-
--- fixing an event and joining
-pub fix-join : (z : Bool) (k m n : ℕ) → m + suc k ≡ n → (c : Bool) (a b : Diagram) → Ordered m n a → Ordered m n b → Reduced a → Reduced b
-    → fixD m c (joinD z a b) ≡ joinD z (fixD m c a) (fixD m c b)
-fix-join z k m n q c a b oa ob ra rb =
-    let half : (c : Bool) → Ordered (suc m) n (joinD z (fixD m c a) (fixD m c b)) = λ c.
-    joined-from z k (suc m) n (omega arith) (fixD m c a) (fixD m c b) (ordered-fix m n c a oa) (ordered-fix m n c b ob)
-    (reduced-fix m c a ra) (reduced-fix m c b rb) .ordered in
-    rw (join-rule z m n a b oa ob ra rb)
-    (fix-mk m n c (joinD z (fixD m true a) (fixD m true b)) (joinD z (fixD m false a) (fixD m false b)) (half true) (half false) ∙ go c)
-  where
-    go : (c : Bool) → cond c (joinD z (fixD m true a) (fixD m true b)) (joinD z (fixD m false a) (fixD m false b)) ≡ joinD z (fixD m c a) (fixD m c b)
-    go true = refl
-    go false = refl

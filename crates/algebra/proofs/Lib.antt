@@ -7,7 +7,6 @@ pub mod Join
 pub mod JoinLaws
 pub mod Subs
 pub mod Plain
-pub mod Reach
 pub mod Sets
 pub mod Without
 pub mod Zero
@@ -18,6 +17,7 @@ pub mod Listing
 pub mod Bracket
 pub mod Depends
 pub mod Gates
+pub mod Least
 pub mod Rules
 pub mod Canon
 pub mod SameChance

@@ -4,17 +4,16 @@ use mathlib.Core.Path.{_≡_, refl, sym, ap, ap₂, _∙_, subst, fun-ext}
 use mathlib.Core.Logic.{_≢_}
 use mathlib.Core.Bool.{Bool, true, false, cond, _&&_, Bool-discrete, true≢false, false≢true}
 use mathlib.Core.List.{List, map}
-use Prim.Native.Nat.{ℕ, _≤_}
+use Prim.Native.Nat.{ℕ}
 use native.Mathlib.Omega.{arith}
-use lib.ListN.{length}
-use Rattle.paper.specs.Lists.{In, keep, flat, has, distinct, Once}
+use Rattle.paper.specs.Lists.{In, keep, flat, has, distinct}
 use Rattle.paper.specs.Sets.{Set, none, allSets}
 use Rattle.paper.specs.Functions.{fixF, reach, table, table-discrete, varies}
 use Rattle.paper.specs.Nodes.{needed, nodesNeeded}
-use Rattle.paper.specs.Diagrams.{Diagram, leaf, node, eval, Ordered, Reduced, mkD, Diagram-discrete}
+use Rattle.paper.specs.Diagrams.{Diagram, leaf, node, eval, Ordered, Reduced, mkD}
 use Rattle.algebra.specs.Operations.{fixD, subs, isNode, nodeCount}
 use Rattle.algebra.proofs.Base.{widen}
-use Rattle.algebra.proofs.Lists.{in-map, map-in, keep-map, in-has, has-in, distinct-once, distinct-le, distinct-same}
+use Rattle.algebra.proofs.Lists.{in-map, map-in, keep-map, in-has, has-in}
 use Rattle.algebra.proofs.Fix.{ordered-fix, reduced-fix, eval-fix, mk-fix, at-end, eval-agree}
 use Rattle.algebra.proofs.Trim.{trim, trim-all, trim-at}
 use Rattle.algebra.proofs.Subs.{subs-trans, fix-sub, sub-fix}
@@ -104,18 +103,3 @@ module _ (n : ℕ) (ds : List Diagram) (good : (d : Diagram) → In d ds → Goo
 
   pub needed-node : (X : List Bool) → In X (needed n (map eval ds)) → (x : Diagram) × In x (keep isNode (flat subs ds)) × (table n (eval x) ≡ X)
   needed-node X h = counted-node n (plain n) (λ F. varies (table n F)) (varies-node n) ds good X (subst (In X) (sym by-test) h)
-
--- ---- what a table of nodes says of the count: xs are the diagrams of the stored nodes, each once
-
-module _ (n : ℕ) (xs ds : List Diagram) (once : Once xs) (good : (d : Diagram) → In d ds → Good n 0 d) where
-  -- where each stored node belongs to some step, no more are stored than needed
-  pub stored-le : ((x : Diagram) → In x xs → In x (keep isNode (flat subs ds))) → length xs ≤ nodesNeeded n (map eval ds)
-  unfolding nodeCount
-  stored-le f = subst (λ k. k ≤ nodesNeeded n (map eval ds)) (distinct-once Diagram-discrete xs once)
-      (subst (λ k. distinct Diagram-discrete xs ≤ k) (count-law n ds good) (distinct-le Diagram-discrete xs (keep isNode (flat subs ds)) f))
-
-  -- and where all that belongs is stored, as many
-  pub stored-all : ((x : Diagram) → In x xs → In x (keep isNode (flat subs ds))) → ((x : Diagram) → In x (keep isNode (flat subs ds)) → In x xs)
-      → length xs ≡ nodesNeeded n (map eval ds)
-  unfolding nodeCount
-  stored-all f g = sym (distinct-once Diagram-discrete xs once) ∙ distinct-same Diagram-discrete xs (keep isNode (flat subs ds)) f g ∙ count-law n ds good

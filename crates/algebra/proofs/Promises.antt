@@ -7,7 +7,7 @@ use mathlib.Core.List.{List, [], _∷_, map}
 use Prim.Native.Nat.{ℕ, suc, _≤_, _<_}
 use native.Mathlib.Omega.{arith}
 use Rattle.paper.specs.Lists.{In, keep, Once, lastOr}
-use Rattle.paper.specs.Sets.{Set, Part, Within}
+use Rattle.paper.specs.Sets.{Set, Part}
 use Rattle.paper.specs.Functions.{Fun, Monotone, dependsOn}
 use Rattle.paper.specs.Trees.{Gate, constF, gateFuns, rootFun, TreeBelow}
 use Rattle.paper.specs.Diagrams.{Diagram, leaf, eval, Ordered}
@@ -16,7 +16,7 @@ use Rattle.paper.specs.Order.{Sorted}
 use Rattle.paper.specs.Chance.{total, low, high, standing, Brackets}
 use Rattle.algebra.specs.Operations.{subs, isNode, nodeCount, gateDiagrams}
 use Rattle.algebra.specs.Families.{cutsD}
-use Rattle.algebra.proofs.Without.{Fit, tidy-cuts, sets-beyond}
+use Rattle.algebra.proofs.Without.{Fit, tidy-cuts}
 use Rattle.algebra.proofs.Cuts.{cuts-law, cuts-decide}
 use Rattle.algebra.proofs.CutCount.{cut-count-law}
 use Rattle.algebra.proofs.Order.{sets-sorted}
@@ -48,10 +48,6 @@ module _ (n : ℕ) (d : Diagram) (F : Fun) (fit : Fit n 0 d) (shows : eval d ≡
 
   pub listed-once : Once (cutList n F)
   listed-once = sorted-all-once (cutList n F) listed-sorted
-
-  -- every listed set names events of the tree alone
-  pub listed-within : (S : Set) → In S (cutList n F) → Within n S
-  listed-within S h = sets-beyond 0 n (cutsD d) S (tidy-cuts n 0 d (fit .ordered) .0) (subst (In S) (sym lists-all) h)
 
   -- THE LIST DECIDES: a set of failures fails the root exactly if it contains a listed cut
   pub list-decides : (S : Set) → (F S ≡ true) ↔ ((T : Set) × In T (cutList n F) × Part T S)

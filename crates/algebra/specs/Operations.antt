@@ -2,7 +2,7 @@
 -- Assumes nothing.
 use mathlib.Core.Bool.{Bool, true, false, cond, Bool·beq}
 use mathlib.Core.List.{List, [], _∷_, _++_}
-use Prim.Native.Nat.{ℕ, suc}
+use Prim.Native.Nat.{ℕ}
 use lib.Dec.{eqb, ltb}
 use Rattle.paper.specs.Lists.{keep, flat, distinct}
 use Rattle.paper.specs.Trees.{Gate}
@@ -23,21 +23,10 @@ abbrev pub joinD : Bool → Diagram → Diagram → Diagram
 joinD z (leaf b) g = cond (Bool·beq b z) (leaf z) g
 joinD z (node e f s) g = joinNode z (node e f s) e (joinD z f) (joinD z s) g
 
-abbrev pub andD : Diagram → Diagram → Diagram
-andD = joinD false
-
-abbrev pub orD : Diagram → Diagram → Diagram
-orD = joinD true
-
 -- the diagram with event m fixed, for a diagram whose events are at least m
 abbrev pub fixD : ℕ → Bool → Diagram → Diagram
 fixD m b (leaf c) = leaf c
 fixD m b (node e f s) = cond (eqb e m) (cond b f s) (node e f s)
-
--- the diagram with the events m, m + 1, .. fixed as the bits say
-abbrev pub fixAll : ℕ → List Bool → Diagram → Diagram
-fixAll m [] d = d
-fixAll m (b ∷ p) d = fixAll (suc m) p (fixD m b d)
 
 -- every sub-diagram
 abbrev pub subs : Diagram → List Diagram

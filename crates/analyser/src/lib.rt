@@ -10,7 +10,8 @@ use records::Reading;
 use records::Tree;
 ghost use mathlib.Core.Path.{_≡_};
 ghost use Rattle.paper.specs.Limits.{limits};
-ghost use Rattle.records.specs.Judge.{outcome};
+ghost use Rattle.rules.specs.Answers.{verdict};
+ghost use Rattle.records.specs.Judge.{outcome, judge};
 ghost use Rattle.records.specs.Memory.{inMemory};
 ghost use Rattle.writing.specs.Writes.{wrote, writeOf};
 ghost use Rattle.listing.specs.Answers.{Answered};
@@ -18,17 +19,20 @@ ghost use Rattle.bracket.specs.Bracketed.{Bracketed};
 ghost use Rattle.memory.specs.Memory.{memory};
 ghost use Rattle.analysis.specs.Filling.{WasRead};
 ghost use Rattle.analyser.specs.Analysed.{Tried, Analysed};
+ghost use Rattle.analyser.specs.Verdicts.{judgeWriting};
 
 // Reads a tree from its bytes.
 pub fn read(bytes: &[u8]) -> Reading
-    ensures { λ r. ⌜ r ≡ inMemory (outcome limits (now (bytes .entry))) ⌝ }
+    ensures whole { λ r. ⌜ r ≡ inMemory (outcome limits (now (bytes .entry))) ⌝ }
+    ensures numbered { λ r. ⌜ verdict (r .answer) ≡ judge limits (now (bytes .entry)) ⌝ }
 {
     records::read(bytes)
 }
 
 // Writes a tree's bytes to the front of room.
 pub fn write(tree: Tree, room: &mut [u8]) -> Written
-    ensures { λ r. ⌜ wrote (r .answer) (r .bytes) (now (room .exit)) ≡ writeOf limits tree (now (room .entry)) ⌝ }
+    ensures whole { λ r. ⌜ wrote (r .answer) (r .bytes) (now (room .exit)) ≡ writeOf limits tree (now (room .entry)) ⌝ }
+    ensures numbered { λ r. ⌜ verdict (r .answer) ≡ judgeWriting limits tree (now (room .entry)) ⌝ }
 {
     writing::write(tree, room)
 }
@@ -43,7 +47,7 @@ pub fn list(
     s: [u64; sets::WORDS],
     room: &mut [u8],
 ) -> Listed
-    ensures { λ r. ⌜ Answered events (now (cuts .entry)) count root begin s (now (room .entry)) (now (room .exit)) (r .number) (r .count) (r .used) (r .last) (r .finished) ⌝ }
+    ensures { λ r. ⌜ Answered events (now (cuts .entry)) count root begin s (now (room .entry)) (now (room .exit)) (r .number) (r .place) (r .count) (r .used) (r .last) (r .finished) ⌝ }
 {
     listing::list(cuts, events, count, root, begin, s, room)
 }
@@ -58,7 +62,7 @@ pub fn bracket(
     lows: &mut [u32],
     highs: &mut [u32],
 ) -> Ends
-    ensures { λ r. ⌜ Bracketed events (now (nodes .entry)) count root (now (chances .entry)) (r .number) (r .low) (r .high) (now (lows .entry)) (now (highs .entry)) (now (lows .exit)) (now (highs .exit)) ⌝ }
+    ensures { λ r. ⌜ Bracketed events (now (nodes .entry)) count root (now (chances .entry)) (r .number) (r .place) (r .low) (r .high) (now (lows .entry)) (now (highs .entry)) (now (lows .exit)) (now (highs .exit)) ⌝ }
 {
     bracket::bracket(nodes, events, count, root, chances, lows, highs)
 }

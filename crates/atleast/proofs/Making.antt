@@ -40,9 +40,6 @@ all-one {T} {c} {D} {r} f = record { each = λ d h. go d h }
     go d (inl e) = (r, subst (λ x. Found T c x r) (sym e) f)
     go d (inr h) = absurd h
 
-pub all-in : {T : List ℕ} {c : ℕ} {ds es : List Diagram} → ((d : Diagram) → In d es → In d ds) → All T c ds → All T c es
-all-in u a = record { each = λ d h. a .each d (u d h) }
-
 pub all-append : {T : List ℕ} {c : ℕ} {ds es : List Diagram} → All T c ds → All T c es → All T c (ds ++ es)
 all-append {T} {c} {ds} {es} a b = record { each = λ d h. go d (in-append d ds es h) }
   where
@@ -91,11 +88,6 @@ made-one {D} m = record { step = step-more (λ E p. record { whole = D; member =
 
 pub stops-one : {D : Diagram} {T : List ℕ} {c : ℕ} {T′ H′ X′ : List ℕ} {c′ : ℕ} → Stops (Part D) T c T′ H′ X′ c′ → Stops (PartOf (D ∷ [])) T c T′ H′ X′ c′
 stops-one {D} s = stops-more (λ E p. record { whole = D; member = inl refl; part = p }) s
-
--- the same steps, in another order or more than once
-pub made-same : {ds es : List Diagram} {T : List ℕ} {c : ℕ} {T′ H′ X′ : List ℕ} {c′ : ℕ} → ((d : Diagram) → In d ds → In d es) → ((d : Diagram) → In d es → In d ds)
-    → Made ds T c T′ H′ X′ c′ → Made es T c T′ H′ X′ c′
-made-same u v m = record { step = step-more (part-more u) (m .step); all = all-in v (m .all) }
 
 module _ {ds : List Diagram} (es : List Diagram) {T : List ℕ} {c : ℕ} {T₁ H₁ X₁ : List ℕ} {c₁ : ℕ} (a : Made ds T c T₁ H₁ X₁ c₁) where
   first : Step (PartOf (ds ++ es)) T c T₁ H₁ X₁ c₁

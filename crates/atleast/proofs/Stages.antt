@@ -98,9 +98,6 @@ pub record Due (k n i j : ℕ) : Type 0 where
   pub low : k ≤ j + i
 
 module _ {k : ℕ} (ds : List Diagram) {i j : ℕ} (due : Due k (length ds) i j) where
-  input : Diagram
-  input = getD ds i (leaf false)
-
   front : drop i ds ≡ getD ds i (leaf false) ∷ drop (i + 1) ds
   front = let l : i < length ds = let a = due .some in let b = due .fits in omega arith in
       drop-cons ds i (leaf false) l ∙ ap (λ m. getD ds i (leaf false) ∷ drop m ds) (sym (add-one i))

@@ -11,8 +11,8 @@ use Rattle.bracket.specs.Bracketed.{Enough, Chances, Refused}
 use Rattle.bracket.specs.Pass.{Priced}
 
 -- a refusal that left the work areas as they were
-pub refused-now : {why number lo hi : ℕ} {L H : List ℕ} → (number ≡ why) × (lo ≡ 0) × (hi ≡ 0) → Refused why number lo hi L H L H
-refused-now r = record { number-is = r .0; no-low = r .1; no-high = r .2; lows = refl; highs = refl }
+pub refused-now : {why number place lo hi : ℕ} {L H : List ℕ} → (number ≡ why) × (place ≡ 0) × (lo ≡ 0) × (hi ≡ 0) → Refused why number place lo hi L H L H
+refused-now r = record { number-is = r .0; no-place = r .1; no-low = r .2; no-high = r .3; lows = refl; highs = refl }
 
 -- all checks are passed
 pub can-fill : {n : ℕ} {T : List ℕ} {c root : ℕ} {A L H : List ℕ} → Lent false n T c root → Enough n T A L H → Chances n A

@@ -24,26 +24,28 @@ pub record Enough (n : ℕ) (T A L H : List ℕ) : Type 0 where
 pub record Chances (n : ℕ) (A : List ℕ) : Type 0 where
   pub each : (e : ℕ) → e < n → chanceIn A e ≤ billion
 
--- a refusal: its number, both ends 0, nothing written
-pub record Refused (why number lo hi : ℕ) (L H L′ H′ : List ℕ) : Type 0 where
+-- a refusal: its number, place 0, both ends 0, nothing written
+pub record Refused (why number place lo hi : ℕ) (L H L′ H′ : List ℕ) : Type 0 where
   pub number-is : number ≡ why
+  pub no-place : place ≡ 0
   pub no-low : lo ≡ 0
   pub no-high : hi ≡ 0
   pub lows : L′ ≡ L
   pub highs : H′ ≡ H
 
 -- done: the two numbers of the denoted diagram, and zero in the work areas to their last number
-pub record Done (T : List ℕ) (root : ℕ) (A : List ℕ) (number lo hi : ℕ) (L H L′ H′ : List ℕ) : Type 0 where
+pub record Done (T : List ℕ) (root : ℕ) (A : List ℕ) (number place lo hi : ℕ) (L H L′ H′ : List ℕ) : Type 0 where
   pub number-is : number ≡ 0
+  pub no-place : place ≡ 0
   pub low-is : lo ≡ low billion (chanceIn A) (den T root)
   pub high-is : hi ≡ high billion (chanceIn A) (den T root)
   pub lows : L′ ≡ replicate (length L) 0
   pub highs : H′ ≡ replicate (length H) 0
 
--- a diagram of n events, its table T, stated node count c and root, chances A; the answer's number and ends; the work areas before and after:
+-- a diagram of n events, its table T, stated node count c and root, chances A; the answer's number, place and ends; the work areas before and after:
 -- one of four answers, the first whose rule is broken, or done
-pub data Bracketed (n : ℕ) (T : List ℕ) (c root : ℕ) (A : List ℕ) (number lo hi : ℕ) (L H L′ H′ : List ℕ) : Type 0 where
-  no-diagram : (Lent false n T c root → ⊥) → Refused 12 number lo hi L H L′ H′ → Bracketed n T c root A number lo hi L H L′ H′
-  too-short : Lent false n T c root → (Enough n T A L H → ⊥) → Refused 9 number lo hi L H L′ H′ → Bracketed n T c root A number lo hi L H L′ H′
-  no-chance : Lent false n T c root → Enough n T A L H → (Chances n A → ⊥) → Refused 7 number lo hi L H L′ H′ → Bracketed n T c root A number lo hi L H L′ H′
-  done : Lent false n T c root → Enough n T A L H → Chances n A → Done T root A number lo hi L H L′ H′ → Bracketed n T c root A number lo hi L H L′ H′
+pub data Bracketed (n : ℕ) (T : List ℕ) (c root : ℕ) (A : List ℕ) (number place lo hi : ℕ) (L H L′ H′ : List ℕ) : Type 0 where
+  no-diagram : (Lent false n T c root → ⊥) → Refused 12 number place lo hi L H L′ H′ → Bracketed n T c root A number place lo hi L H L′ H′
+  too-short : Lent false n T c root → (Enough n T A L H → ⊥) → Refused 9 number place lo hi L H L′ H′ → Bracketed n T c root A number place lo hi L H L′ H′
+  no-chance : Lent false n T c root → Enough n T A L H → (Chances n A → ⊥) → Refused 7 number place lo hi L H L′ H′ → Bracketed n T c root A number place lo hi L H L′ H′
+  done : Lent false n T c root → Enough n T A L H → Chances n A → Done T root A number place lo hi L H L′ H′ → Bracketed n T c root A number place lo hi L H L′ H′

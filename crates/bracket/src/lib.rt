@@ -15,9 +15,10 @@ const DOWN: u64 = 0;
 
 const UP: u64 = D - 1;
 
-// What the call answers: a number of the paper, and the two ends, which are 0 in a refusal.
+// What the call answers: a number of the paper, its place, which is 0 always, and the two ends, which are 0 in a refusal.
 pub struct Ends {
     pub number: u8,
+    pub place: usize,
     pub low: u64,
     pub high: u64,
 }
@@ -112,7 +113,7 @@ fn both_ends(
     highs: &mut [u32],
 ) -> Ends
     requires { ⌜ (Priced n (now nodes) count root (now chances)) × (count ≤ length (now lows)) × (count ≤ length (now highs)) ⌝ }
-    ensures { λ r. ⌜ Done (now (nodes .entry)) root (now (chances .entry)) (r .number) (r .low) (r .high) (now (lows .entry)) (now (highs .entry)) (now (lows .exit)) (now (highs .exit)) ⌝ }
+    ensures { λ r. ⌜ Done (now (nodes .entry)) root (now (chances .entry)) (r .number) (r .place) (r .low) (r .high) (now (lows .entry)) (now (highs .entry)) (now (lows .exit)) (now (highs .exit)) ⌝ }
 {
     fill_all(nodes, n, count, root, chances, lows, highs);
     let low = number_in(lows, root);
@@ -121,16 +122,18 @@ fn both_ends(
     tables::clear(highs);
     Ends {
         number: 0,
+        place: 0,
         low,
         high,
     }
 }
 
 fn refused(number: u8) -> Ends
-    ensures { λ r. ⌜ (r .number ≡ number) × (r .low ≡ 0) × (r .high ≡ 0) ⌝ }
+    ensures { λ r. ⌜ (r .number ≡ number) × (r .place ≡ 0) × (r .low ≡ 0) × (r .high ≡ 0) ⌝ }
 {
     Ends {
         number,
+        place: 0,
         low: 0,
         high: 0,
     }
@@ -146,7 +149,7 @@ pub fn bracket(
     lows: &mut [u32],
     highs: &mut [u32],
 ) -> Ends
-    ensures { λ r. ⌜ Bracketed n (now (nodes .entry)) count root (now (chances .entry)) (r .number) (r .low) (r .high) (now (lows .entry)) (now (highs .entry)) (now (lows .exit)) (now (highs .exit)) ⌝ }
+    ensures { λ r. ⌜ Bracketed n (now (nodes .entry)) count root (now (chances .entry)) (r .number) (r .place) (r .low) (r .high) (now (lows .entry)) (now (highs .entry)) (now (lows .exit)) (now (highs .exit)) ⌝ }
 {
     if !tables::is_diagram(nodes, n, count, root, false) {
         return refused(12);

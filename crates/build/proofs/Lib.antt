@@ -3,5 +3,4 @@ pub mod Gates
 pub mod Sofar
 pub mod Needed
 pub mod Meaning
-pub mod Renumber
 pub mod Reading

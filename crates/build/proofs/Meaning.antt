@@ -24,8 +24,9 @@ use Rattle.algebra.proofs.Promises.{root-shows}
 use Rattle.tables.specs.Table.{eventOf, failedOf, soundOf, den}
 use Rattle.tables.specs.Lent.{Above, Node, Kind, Lent}
 use Rattle.tables.proofs.Den.{den-0, den-1, den-node}
+use Rattle.tables.proofs.Once.{den-inj}
 use Rattle.store.specs.Building.{Found}
-use Rattle.store.proofs.Denotes.{below-or-not, den-inj}
+use Rattle.store.proofs.Denotes.{below-or-not}
 use Rattle.build.specs.Finishing.{Whole}
 use Rattle.build.proofs.Gates.{diagrams-length}
 
@@ -73,18 +74,11 @@ module _ (n : ℕ) (t : List Gate) (b : TreeBelow n t) {G T H X : List ℕ} {roo
   pub gate-shows : (i : ℕ) → Shows n (den T (getD G i 0)) (getD (gateFuns t) i (constF false))
   gate-shows i = subst (λ d. Shows n d (getD (gateFuns t) i (constF false))) (sym (w .gates i .is)) (pairs-at n (gateDiagrams t) (gateFuns t) i (gates-show n t b))
 
-  -- two gates have the same number exactly when their diagrams are one
-  pub gates-same : (i j : ℕ) → (getD G i 0 ≡ getD G j 0) ↔ (getD (gateDiagrams t) i (leaf false) ≡ getD (gateDiagrams t) j (leaf false))
-  gates-same i j = (
-    (λ e. sym (w .gates i .is) ∙ ap (den T) e ∙ w .gates j .is),
-    (λ e. den-inj (w .store) (getD G i 0) (getD G j 0) (w .gates i .within) (w .gates j .within) (w .gates i .is ∙ e ∙ sym (w .gates j .is))),
-  )
-
   -- ONE NUMBER FOR ONE FUNCTION: two gates have the same number exactly when they agree on every set
   pub gates-agree : (i j : ℕ) → (getD G i 0 ≡ getD G j 0) ↔ ((v : Set) → getD (gateFuns t) i (constF false) v ≡ getD (gateFuns t) j (constF false) v)
   gates-agree i j = (
     (λ e v. sym (ap (λ F. F v) (gate-shows i .1)) ∙ ap (λ r. eval (den T r) v) e ∙ ap (λ F. F v) (gate-shows j .1)),
-    (λ h. den-inj (w .store) (getD G i 0) (getD G j 0) (w .gates i .within) (w .gates j .within)
+    (λ h. den-inj (w .store .lower) (w .store .unique) (w .gates i .within) (w .gates j .within)
         (canonical n (den T (getD G i 0)) (den T (getD G j 0)) (gate-shows i .0 .ordered) (gate-shows j .0 .ordered) (gate-shows i .0 .reduced) (gate-shows j .0 .reduced)
         (λ v. ap (λ F. F v) (gate-shows i .1) ∙ h v ∙ sym (ap (λ F. F v) (gate-shows j .1))))),
   )

@@ -1,6 +1,6 @@
--- The arrays of a tree that was read are what building asks for; of a refused one they are those of no gate.
+-- The arrays of a tree that was read are what building asks for.
 -- Assumes nothing.
-use mathlib.Core.Path.{_≡_, refl, sym, subst}
+use mathlib.Core.Path.{_≡_, sym, subst}
 use mathlib.Core.List.{List, []}
 use Prim.Native.Nat.{ℕ, _+_, _-_, _≤_, _<_}
 use native.Mathlib.Omega.{arith}
@@ -8,14 +8,12 @@ use native.Mathlib.Decide.{ℕ-discrete}
 use lib.ListN.{length, getD, take, replicate, length-append, length-take}
 use Rattle.paper.specs.Limits.{limits}
 use Rattle.paper.specs.Flat.{gatesFrom}
-use Rattle.records.specs.Judge.{Book, start, Outcome, accept, refuse, outcome}
-use Rattle.records.specs.Memory.{pad, memory, inMemory}
+use Rattle.records.specs.Judge.{Book}
+use Rattle.records.specs.Memory.{pad, memory}
 use Rattle.records.specs.Trees.{Lawful}
-use Rattle.records.specs.declared.Reading.{Reading}
 use Rattle.records.specs.declared.Tree.{Tree}
 use Rattle.records.proofs.Pad.{pad-take, pad-length}
 use Rattle.trees.proofs.InMemory.{pad-at}
-use Rattle.trees.proofs.Lawful.{lawful}
 use Rattle.build.specs.Memory.{startOf, Plan, Arrays}
 
 pad-long : (n : ℕ) (xs : List ℕ) → length xs ≤ length (pad n 0 xs)
@@ -48,37 +46,6 @@ arrays-memory b l = record {
   all-inputs = pad-length (limits .inAll) 0 (b .inputs) (l .fewInputs);
   plan = subst (λ s. Plan (pad (limits .gates) 0 (b .kinds)) (pad (limits .gates) 0 (b .leasts)) s (pad (limits .inAll) 0 (b .inputs))) (sym (pad-take (limits .gates) 0 (b .sizes))) (plan-pad b l);
 }
-
-arrays-none : Arrays (memory start)
-unfolding memory
-arrays-none = record {
-  few-gates = omega arith;
-  all-kinds = pad-length (limits .gates) 0 [] (omega arith);
-  all-leasts = pad-length (limits .gates) 0 [] (omega arith);
-  all-sizes = pad-length (limits .gates) 0 [] (omega arith);
-  all-inputs = pad-length (limits .inAll) 0 [] (omega arith);
-  plan = record {
-    has-kinds = omega arith;
-    has-leasts = omega arith;
-    has-inputs = omega arith;
-    some = λ g h. absurd (omega arith);
-    few = λ g h. absurd (omega arith);
-    least = λ g h. absurd (omega arith);
-    earlier = λ g j h. absurd (omega arith);
-  };
-}
-
--- whatever the bytes
-pub arrays-read : (bytes : List ℕ) → Arrays (inMemory (outcome limits bytes) .tree)
-unfolding inMemory
-arrays-read bytes = go (outcome limits bytes) refl
-  where
-    go : (o : Outcome) → outcome limits bytes ≡ o → Arrays (inMemory (outcome limits bytes) .tree)
-    go (accept b) e = rw e (arrays-memory b (lawful bytes b e))
-    go (refuse a) e = rw e arrays-none
-
-pub arrays-of : (bytes : List ℕ) {r : Reading} → r ≡ inMemory (outcome limits bytes) → Arrays (r .tree)
-arrays-of bytes e = subst (λ r. Arrays (r .tree)) (sym e) (arrays-read bytes)
 
 -- the sizes of its gates, as many as there are gates
 pub array-sizes : {t : Tree} → Arrays t → t .«gate_count» ≡ length (take (t .«gate_count») (t .sizes))

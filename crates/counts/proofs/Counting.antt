@@ -9,7 +9,7 @@ use lib.ListN.{length, length-append}
 use Rattle.paper.specs.Diagrams.{Diagram}
 use Rattle.paper.specs.Cuts.{setsOf}
 use Rattle.walk.specs.After.{toList}
-use Rattle.listing.specs.Answers.{Within}
+use Rattle.listing.specs.Answers.{GoodStart}
 use Rattle.followup.specs.Rooms.{Next}
 
 abbrev M : ℕ
@@ -21,15 +21,15 @@ wrap t k l N h = omega arith
 
 -- the cuts counted and those left are all, in a sum that wraps
 pub record Counted (n : ℕ) (d : Diagram) (begin : Bool) (ws room : List ℕ) (total : ℕ) : Type 0 where
-  pub within : Within n begin ws
+  pub within : GoodStart n begin ws
   pub long : length room ≡ 65536
   pub sum : (total + length (toList n d begin ws)) % M ≡ length (setsOf d) % M
 
 pub count-none : (n : ℕ) (d : Diagram) (ws room : List ℕ) → length room ≡ 65536 → Counted n d true ws room 0
 count-none n d ws room l = record { within = λ z. absurd (true≢false z); long = l; sum = ap (λ (k : ℕ). k % M) (let e : 0 + length (setsOf d) ≡ length (setsOf d) = omega arith in e) }
 
-module _ {n : ℕ} {d : Diagram} {begin : Bool} {ws room : List ℕ} {total : ℕ} (c : Counted n d begin ws room total) {room′ : List ℕ} {number count used : ℕ} {last : List ℕ} {finished : Bool}
-    (x : Next n d begin ws room′ number count used last finished) {total′ : ℕ} (e : total′ ≡ (total + count) % 2 ^ 64) where
+module _ {n : ℕ} {d : Diagram} {begin : Bool} {ws room : List ℕ} {total : ℕ} (c : Counted n d begin ws room total) {room′ : List ℕ} {number place count used : ℕ} {last : List ℕ} {finished : Bool}
+    (x : Next n d begin ws room′ number place count used last finished) {total′ : ℕ} (e : total′ ≡ (total + count) % 2 ^ 64) where
   counted : (total′ + length (x .left)) % M ≡ length (setsOf d) % M
   counted =
       let w = ap length (x .whole) ∙ length-append (x .written) (x .left) in

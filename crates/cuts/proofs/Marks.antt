@@ -170,10 +170,10 @@ marking-end {T} {root} {K} {i} m l = record { bit = m .bit; reached = m .reached
 
 -- ---- what is reached, as diagrams
 
-pub reached-held : {T : List ℕ} {root : ℕ} {j : ℕ} → Held T root → Reached T root j → j ≤ root
-reached-held h here = omega arith
-reached-held h (failed j r a) = let w = reached-held h r in let v = failed-below (held-low h w) a in omega arith
-reached-held h (sound j r a) = let w = reached-held h r in let v = sound-below (held-low h w) a in omega arith
+pub reached-low : {T : List ℕ} {root : ℕ} {j : ℕ} → Held T root → Reached T root j → j ≤ root
+reached-low h here = omega arith
+reached-low h (failed j r a) = let w = reached-low h r in let v = failed-below (held-low h w) a in omega arith
+reached-low h (sound j r a) = let w = reached-low h r in let v = sound-below (held-low h w) a in omega arith
 
 then-reached : {T : List ℕ} {root j k : ℕ} → Reached T root j → Reached T j k → Reached T root k
 then-reached p here = p
@@ -188,10 +188,10 @@ module _ {T : List ℕ} {root : ℕ} (held : Held T root) where
   pub reached-sub : {j : ℕ} → Reached T root j → In (den T j) (subs (den T root))
   reached-sub here = subs-self (den T root)
   reached-sub (failed j r a) = subs-trans (den T (failedOf T j)) (den T j) (den T root)
-      (rw (node-at j a (reached-held held r)) (inr (in-left (den T (failedOf T j)) (subs (den T (failedOf T j))) (subs (den T (soundOf T j))) (subs-self (den T (failedOf T j))))))
+      (rw (node-at j a (reached-low held r)) (inr (in-left (den T (failedOf T j)) (subs (den T (failedOf T j))) (subs (den T (soundOf T j))) (subs-self (den T (failedOf T j))))))
       (reached-sub r)
   reached-sub (sound j r a) = subs-trans (den T (soundOf T j)) (den T j) (den T root)
-      (rw (node-at j a (reached-held held r)) (inr (in-right (den T (soundOf T j)) (subs (den T (failedOf T j))) (subs (den T (soundOf T j))) (subs-self (den T (soundOf T j))))))
+      (rw (node-at j a (reached-low held r)) (inr (in-right (den T (soundOf T j)) (subs (den T (failedOf T j))) (subs (den T (soundOf T j))) (subs-self (den T (soundOf T j))))))
       (reached-sub r)
 
 -- and each sub-diagram is denoted by a reached number

@@ -2,7 +2,7 @@
 -- Assumes nothing.
 use mathlib.Core.Path.{_≡_, sym, ap, ap₂, _∙_, subst}
 use mathlib.Core.List.{List}
-use Prim.Native.Nat.{ℕ, suc, _+_, _-_, _*_, _<_}
+use Prim.Native.Nat.{ℕ, suc, _+_, _-_, _<_}
 use native.Mathlib.Omega.{arith}
 use lib.ListN.{length, getD}
 use Rattle.paper.specs.Limits.{limits}
@@ -50,9 +50,6 @@ module _ {C H X : List ℕ} {d : ℕ} {M T O : List ℕ} {i : ℕ} (t : Turn C H
 
   pub sound-low : soundOf T i < i
   sound-low = let w = t .function .held .within in let n = t .node in let q = t .function .held .lower .sound (i - 2) (omega arith) in omega arith
-
-  pub node-fits : 3 * (i - 2) + 2 < length T
-  node-fits = let h = t .function .held in let w = h .within in let v = h .fits in let n = t .node in omega arith
 
   pub failed-own : failedOf T i < length O
   failed-own = let l = t .long in let q = failed-low in omega arith

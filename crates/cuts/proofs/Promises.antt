@@ -1,7 +1,6 @@
 -- What a cut table comes to, in the rules' own words, where the root's diagram is ordered, reduced and monotone.
 -- Assumes nothing.
-use mathlib.Core.Path.{_≡_, sym, ap, _∙_, subst}
-use mathlib.Core.Logic.{_↔_}
+use mathlib.Core.Path.{_≡_, ap, _∙_, subst}
 use mathlib.Core.Bool.{Bool, true}
 use mathlib.Core.List.{List}
 use Prim.Native.Nat.{ℕ, suc, _+_, _-_, _*_, _/_, _%_, _<_, _≤_}
@@ -9,27 +8,23 @@ use native.Mathlib.Omega.{arith}
 use lib.ListN.{length}
 use Rattle.paper.specs.Limits.{limits}
 use Rattle.paper.specs.Lists.{In, keep}
-use Rattle.paper.specs.Sets.{Set}
 use Rattle.paper.specs.Functions.{Fun}
 use Rattle.paper.specs.Diagrams.{Diagram, eval, Ordered}
-use Rattle.paper.specs.Cuts.{MinimalCut, setsOf, cutList, cutNodesNeeded}
+use Rattle.paper.specs.Cuts.{setsOf, cutList, cutNodesNeeded}
 use Rattle.algebra.specs.Operations.{subs, isNode}
 use Rattle.algebra.specs.Families.{cutsD}
 use Rattle.algebra.proofs.Base.{lengthen}
 use Rattle.algebra.proofs.Lists.{keep-in, map-in}
 use Rattle.algebra.proofs.Subs.{part-ordered}
 use Rattle.algebra.proofs.Without.{Fit, Tidy, part-tidy, tidy-cuts}
-use Rattle.algebra.proofs.Promises.{lists-all, listed-exactly, cut-nodes}
+use Rattle.algebra.proofs.Promises.{lists-all, cut-nodes}
 use Rattle.tables.specs.Table.{eventOf, failedOf, soundOf, den}
 use Rattle.tables.specs.Stored.{Lower}
 use Rattle.tables.specs.Lent.{Above, Node, Kind, Lent}
 use Rattle.tables.proofs.Den.{den-0, den-node}
 use Rattle.tables.proofs.Lent.{lent-lower, lent-ordered}
-use Rattle.store.specs.Building.{Has}
-use Rattle.store.specs.declared.Built.{Built}
-use Rattle.store.specs.declared.Built.the-variants.{Done, Short}
 use Rattle.without.specs.Reading.{Readable}
-use Rattle.cuts.specs.Cutting.{cutNodes, CutTable, Cuts, Full}
+use Rattle.cuts.specs.Cutting.{cutNodes, CutTable}
 
 -- ---- what the analysis has can be read
 
@@ -57,19 +52,6 @@ module _ (n : ℕ) (D : Diagram) (F : Fun) (fit : Fit n 0 D) (shows : eval D ≡
     -- CUTS: the root denotes the defined list, which is exactly the minimal cuts
     pub done-list : setsOf (den C r) ≡ cutList n F
     done-list = ap setsOf (t .root .is) ∙ lists-all n D F fit shows
-
-    pub done-cuts : (S : Set) → In S (setsOf (den C r)) ↔ MinimalCut F S
-    done-cuts S = subst (λ l. In S l ↔ MinimalCut F S) (sym done-list) (listed-exactly n D F fit shows S)
-
-  -- EXACTLY: what building answers says whether the nodes needed exceed the capacity
-  pub full-exactly : (C H X : List ℕ) (b : Built) → Cuts D C H X b → Full b ↔ (length C / 3 < cutNodesNeeded n F)
-  full-exactly C H X (Done r d) t = (λ z. absurd z, λ l. let fits = done-fits t in absurd (omega arith))
-  full-exactly C H X (Short d) l = (λ _. short-needs l, λ _. tt)
-
--- TWO CUT TABLES of one diagram have as many nodes, roots of one family, and each family of the one stands in the other
-pub tables-agree : {D : Diagram} {C H X : List ℕ} {d r : ℕ} {C′ H′ X′ : List ℕ} {d′ r′ : ℕ} → CutTable D C H X d r → CutTable D C′ H′ X′ d′ r′
-    → (d ≡ d′) × (den C r ≡ den C′ r′) × ((i : ℕ) → 2 ≤ i → i < d + 2 → Has C′ d′ (den C i))
-tables-agree {C = C} t u = (t .count ∙ sym (u .count), t .root .is ∙ sym (u .root .is), λ i a b. u .all (den C i) (t .only .each i a b))
 
 -- ---- the cut table passes the check of a lent cut diagram
 

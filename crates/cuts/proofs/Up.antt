@@ -28,7 +28,7 @@ use Rattle.without.specs.Reading.{Held}
 use Rattle.without.specs.Without.{Right, Taken}
 use Rattle.cuts.specs.Reach.{Reached, here, failed, sound}
 use Rattle.cuts.specs.Cutting.{families, cutNodes, CutTable, Room, Turn, Halfway, Base}
-use Rattle.cuts.proofs.Marks.{held-low, failed-below, sound-below, reached-held as reached-low, reached-sub, sub-reached}
+use Rattle.cuts.proofs.Marks.{held-low, failed-below, sound-below, reached-low, reached-sub, sub-reached}
 
 -- the areas keep their lengths
 pub record Lengths (C₀ H₀ X₀ M₀ O₀ C H X M O : List ℕ) : Type 0 where

@@ -45,11 +45,6 @@ abbrev pub Cuts : (D : Diagram) (C H X : List ℕ) → Built → Type 0
 Cuts D C H X (Done r d) = CutTable D C H X d r
 Cuts D C H X (Short d) = length C / 3 < cutNodes D
 
--- the answer that the cut table is full
-abbrev pub Full : Built → Type 0
-Full (Done r d) = ⊥
-Full (Short d) = Unit {0}
-
 -- ---- on the way
 
 -- lengths of the cut table, its heads and links, the marks and the cut numbers

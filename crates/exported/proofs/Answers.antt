@@ -48,5 +48,5 @@ flag : (b : Bool) → boolByte b ≡ cond b 1 0
 flag true = refl
 flag false = refl
 
-pub listed : {number count used a b c d : ℕ} (f : Bool) → number ∷ count ∷ used ∷ boolByte f ∷ a ∷ b ∷ c ∷ d ∷ [] ≡ number ∷ count ∷ used ∷ cond f 1 0 ∷ a ∷ b ∷ c ∷ d ∷ []
+pub listed : {number place count used a b c d : ℕ} (f : Bool) → number ∷ place ∷ count ∷ used ∷ boolByte f ∷ a ∷ b ∷ c ∷ d ∷ [] ≡ number ∷ place ∷ count ∷ used ∷ cond f 1 0 ∷ a ∷ b ∷ c ∷ d ∷ []
 listed f = rw (flag f) refl

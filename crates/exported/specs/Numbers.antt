@@ -21,7 +21,7 @@ abbrev pub ofAnalysis : Analysis → List ℕ
 ofAnalysis a = a .number ∷ a .place ∷ a .nodes ∷ a .«cut_nodes» ∷ a .root ∷ a .«cut_root» ∷ []
 
 abbrev pub ofListing : Listed → List ℕ
-ofListing l = l .number ∷ l .count ∷ l .used ∷ cond (l .finished) 1 0 ∷ getD (l .last) 0 0 ∷ getD (l .last) 1 0 ∷ getD (l .last) 2 0 ∷ getD (l .last) 3 0 ∷ []
+ofListing l = l .number ∷ l .place ∷ l .count ∷ l .used ∷ cond (l .finished) 1 0 ∷ getD (l .last) 0 0 ∷ getD (l .last) 1 0 ∷ getD (l .last) 2 0 ∷ getD (l .last) 3 0 ∷ []
 
 abbrev pub ofBracket : Ends → List ℕ
-ofBracket e = e .number ∷ e .low ∷ e .high ∷ []
+ofBracket e = e .number ∷ e .place ∷ e .low ∷ e .high ∷ []

@@ -122,8 +122,8 @@ pub extern "C" fn matticklet_analyse(
     ];
 }
 
-// Lists the cuts of a lent cut diagram, from the beginning or after the set `s`. The answer: number, cuts, bytes used, finished, and the
-// last set's four words.
+// Lists the cuts of a lent cut diagram, from the beginning or after the set `s`. The answer: number, place, cuts, bytes used, finished, and
+// the last set's four words.
 #[no_mangle]
 pub extern "C" fn matticklet_list(
     cuts: &[u32],
@@ -133,14 +133,15 @@ pub extern "C" fn matticklet_list(
     begin: bool,
     s: &[u64; sets::WORDS],
     room: &mut [u8],
-    answer: &mut [u64; 8],
+    answer: &mut [u64; 9],
 )
-    ensures { λ _. ⌜ ((r : Listed) × (Answered events (now (cuts .entry)) count root begin (now (s .entry)) (now (room .entry)) (now (room .exit)) (r .number) (r .count) (r .used) (r .last) (r .finished) × (now (answer .exit) ≡ ofListing r))) ⌝ }
+    ensures { λ _. ⌜ ((r : Listed) × (Answered events (now (cuts .entry)) count root begin (now (s .entry)) (now (room .entry)) (now (room .exit)) (r .number) (r .place) (r .count) (r .used) (r .last) (r .finished) × (now (answer .exit) ≡ ofListing r))) ⌝ }
 {
     let r = analyser::list(cuts, events, count, root, begin, *s, room);
     let last = r.last;
     *answer = [
         r.number as u64,
+        r.place as u64,
         r.count as u64,
         r.used as u64,
         r.finished as u64,
@@ -151,7 +152,7 @@ pub extern "C" fn matticklet_list(
     ];
 }
 
-// Encloses the chance of the root of a lent diagram. The answer: number, low, high.
+// Encloses the chance of the root of a lent diagram. The answer: number, place, low, high.
 #[no_mangle]
 pub extern "C" fn matticklet_bracket(
     nodes: &[u32],
@@ -161,10 +162,10 @@ pub extern "C" fn matticklet_bracket(
     chances: &[u32],
     lows: &mut [u32],
     highs: &mut [u32],
-    answer: &mut [u64; 3],
+    answer: &mut [u64; 4],
 )
-    ensures { λ _. ⌜ ((r : Ends) × (Bracketed events (now (nodes .entry)) count root (now (chances .entry)) (r .number) (r .low) (r .high) (now (lows .entry)) (now (highs .entry)) (now (lows .exit)) (now (highs .exit)) × (now (answer .exit) ≡ ofBracket r))) ⌝ }
+    ensures { λ _. ⌜ ((r : Ends) × (Bracketed events (now (nodes .entry)) count root (now (chances .entry)) (r .number) (r .place) (r .low) (r .high) (now (lows .entry)) (now (highs .entry)) (now (lows .exit)) (now (highs .exit)) × (now (answer .exit) ≡ ofBracket r))) ⌝ }
 {
     let r = analyser::bracket(nodes, events, count, root, chances, lows, highs);
-    *answer = [r.number as u64, r.low, r.high];
+    *answer = [r.number as u64, r.place as u64, r.low, r.high];
 }

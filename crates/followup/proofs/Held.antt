@@ -21,8 +21,8 @@ use Rattle.trees.proofs.Lawful.{lawful, tree-events}
 use Rattle.trees.proofs.Promises.{done-is-good}
 use Rattle.bracket.specs.Bracketed.{Chances}
 use Rattle.memory.specs.Memory.{Memory}
-use Rattle.memory.specs.Outcome as said
-use Rattle.analyser.specs.Analysed as an
+use Rattle.memory.specs.Outcome.{Done}
+use Rattle.analyser.specs.Analysed.{Analysed}
 use Rattle.memory.specs.declared.Analysis.{Analysis}
 use Rattle.analyser.proofs.Outcomes.{done-of}
 use Rattle.arrays.specs.Chances.{chancesOf}
@@ -47,7 +47,7 @@ module _ {b : Book} (l : Lawful limits b) where
         omega arith;
   }
 
-  book-held : {m m′ : Memory} {a : Analysis} → said.Done (treeOf b) m m′ a → Held (memory b) (m′ .nodes) (m′ .cuts) a
+  book-held : {m m′ : Memory} {a : Analysis} → Done (treeOf b) m m′ a → Held (memory b) (m′ .nodes) (m′ .cuts) a
   book-held {m′ = m′} {a} d = record {
     nodes = record {
       lent = subst (λ (n : ℕ). Lent false n (m′ .nodes) (a .nodes) (a .root)) (sym count-is) (d .node-table .lent);
@@ -74,9 +74,9 @@ module _ (bytes : List ℕ) {r : Reading} (e : r ≡ inMemory (outcome limits by
       omega arith
 
   -- THE TABLES of an analysis that answers 0
-  pub held : {m m′ : Memory} {a : Analysis} → an.Analysed bytes m m′ a → a .number ≡ 0 → Held (r .tree) (m′ .nodes) (m′ .cuts) a
-  held (an.Analysed.bad-tree w q f k) z = absurd (refused-not-0 w q (sym (f .number) ∙ z))
-  held (an.Analysed.bad-length b q l f k) z = absurd (let x = f .number in omega arith)
-  held (an.Analysed.nodes-full b q l h f k) z = absurd (let x = f .number in omega arith)
-  held (an.Analysed.cuts-full b q l h i f k) z = absurd (let x = f .number in omega arith)
-  held {m} {m′} {a} (an.Analysed.done b q l h i d) z = subst (λ (t : Tree). Held t (m′ .nodes) (m′ .cuts) a) (sym (tree-is b q)) (book-held (lawful bytes b q) d)
+  pub held : {m m′ : Memory} {a : Analysis} → Analysed bytes m m′ a → a .number ≡ 0 → Held (r .tree) (m′ .nodes) (m′ .cuts) a
+  held (Analysed.bad-tree w q f k) z = absurd (refused-not-0 w q (sym (f .number) ∙ z))
+  held (Analysed.bad-length b q l f k) z = absurd (let x = f .number in omega arith)
+  held (Analysed.nodes-full b q l h f k) z = absurd (let x = f .number in omega arith)
+  held (Analysed.cuts-full b q l h i f k) z = absurd (let x = f .number in omega arith)
+  held {m} {m′} {a} (Analysed.done b q l h i d) z = subst (λ (t : Tree). Held t (m′ .nodes) (m′ .cuts) a) (sym (tree-is b q)) (book-held (lawful bytes b q) d)

@@ -11,15 +11,14 @@ use Rattle.paper.specs.Listing.{setsBytes, fitting}
 use Rattle.tables.specs.Table.{den}
 use Rattle.tables.specs.Lent.{Lent}
 use Rattle.walk.specs.After.{toList}
-use Rattle.listing.specs.Answers.{Within, Answered}
-use Rattle.listing.specs.Answers as answers
+use Rattle.listing.specs.Answers.{startOf, GoodStart, Written, Answered}
 use Rattle.listing.proofs.Join.{part, goes-on}
 use Rattle.promises.proofs.Serving.{serves, hands-on}
 use Rattle.followup.specs.Rooms.{longest, Next}
 
-module _ {n : ℕ} {T : List ℕ} {c root : ℕ} {begin : Bool} {ws room room′ : List ℕ} {count used : ℕ} {last : List ℕ} {finished : Bool} where
-  zero-next : answers.Done n (den T root) (answers.startOf begin ws) (fitting n (length room) (toList n (den T root) begin ws)) room room′ 0 count used last finished
-      → Answered n T c root begin ws room room′ 0 count used last finished → Next n (den T root) begin ws room′ 0 count used last finished
+module _ {n : ℕ} {T : List ℕ} {c root : ℕ} {begin : Bool} {ws room room′ : List ℕ} {place count used : ℕ} {last : List ℕ} {finished : Bool} where
+  zero-next : Written n (den T root) (startOf begin ws) (fitting n (length room) (toList n (den T root) begin ws)) room room′ 0 place count used last finished
+      → Answered n T c root begin ws room room′ 0 place count used last finished → Next n (den T root) begin ws room′ 0 place count used last finished
   zero-next d a =
       let p = part a in
       let w = fitting n (length room) (toList n (den T root) begin ws) in
@@ -27,6 +26,7 @@ module _ {n : ℕ} {T : List ℕ} {c root : ℕ} {begin : Bool} {ws room room′
       let l = d .long in
       record {
         is = refl;
+        no-place = d .no-place;
         written = w;
         left = p .q;
         whole = p .whole;
@@ -40,22 +40,22 @@ module _ {n : ℕ} {T : List ℕ} {c root : ℕ} {begin : Bool} {ws room room′
       }
 
 -- NEVER REFUSED
-pub never-refused : {n : ℕ} {T : List ℕ} {c root : ℕ} {begin : Bool} {ws room room′ : List ℕ} {number count used : ℕ} {last : List ℕ} {finished : Bool}
-    → Lent true n T c root → Within n begin ws → longest ≤ length room
-    → Answered n T c root begin ws room room′ number count used last finished → Next n (den T root) begin ws room′ number count used last finished
+pub never-refused : {n : ℕ} {T : List ℕ} {c root : ℕ} {begin : Bool} {ws room room′ : List ℕ} {number place count used : ℕ} {last : List ℕ} {finished : Bool}
+    → Lent true n T c root → GoodStart n begin ws → longest ≤ length room
+    → Answered n T c root begin ws room room′ number place count used last finished → Next n (den T root) begin ws room′ number place count used last finished
 never-refused lent ok h (Answered.no-diagram e r) = absurd (e lent)
 never-refused lent ok h (Answered.beyond v e b r) = absurd (ok e b)
 never-refused lent ok h (Answered.short v w s r) =
     absurd (let few = lent .few-events in let z = serves (Answered.short v w s r) lent ok (omega arith) in let e = r .is in omega arith)
-never-refused {n} {T} {c} {root} {begin} {ws} {room} {room′} {number} {count} {used} {last} {finished} lent ok h (Answered.done v w s r) =
-    subst (λ (k : ℕ). Next n (den T root) begin ws room′ k count used last finished) (sym (r .is)) (zero-next d (Answered.done v w s d))
+never-refused {n} {T} {c} {root} {begin} {ws} {room} {room′} {number} {place} {count} {used} {last} {finished} lent ok h (Answered.done v w s r) =
+    subst (λ (k : ℕ). Next n (den T root) begin ws room′ k place count used last finished) (sym (r .is)) (zero-next d (Answered.done v w s d))
   where
-    d : answers.Done n (den T root) (answers.startOf begin ws) (fitting n (length room) (toList n (den T root) begin ws)) room room′ 0 count used last finished
-    d = subst (λ (k : ℕ). answers.Done n (den T root) (answers.startOf begin ws) (fitting n (length room) (toList n (den T root) begin ws)) room room′ k count used last finished) (r .is) r
+    d : Written n (den T root) (startOf begin ws) (fitting n (length room) (toList n (den T root) begin ws)) room room′ 0 place count used last finished
+    d = subst (λ (k : ℕ). Written n (den T root) (startOf begin ws) (fitting n (length room) (toList n (den T root) begin ws)) room room′ k place count used last finished) (r .is) r
 
 -- THE MEASURE of a listing room by room: the cuts that are left
-pub fewer : {n : ℕ} {d : Diagram} {begin : Bool} {ws room′ : List ℕ} {number count used : ℕ} {last : List ℕ} {finished : Bool}
-    → Next n d begin ws room′ number count used last finished → finished ≡ false → length (toList n d false last) < length (toList n d begin ws)
+pub fewer : {n : ℕ} {d : Diagram} {begin : Bool} {ws room′ : List ℕ} {number place count used : ℕ} {last : List ℕ} {finished : Bool}
+    → Next n d begin ws room′ number place count used last finished → finished ≡ false → length (toList n d false last) < length (toList n d begin ws)
 fewer x f =
     let w = ap length (x .whole) ∙ length-append (x .written) (x .left) in
     let a = ap length (x .after) in

@@ -11,20 +11,21 @@ use Rattle.paper.specs.Sets.{Set}
 use Rattle.paper.specs.Diagrams.{Diagram}
 use Rattle.paper.specs.Listing.{setsBytes}
 use Rattle.walk.specs.After.{toList}
-use Rattle.listing.specs.Answers.{Within}
+use Rattle.listing.specs.Answers.{GoodStart}
 
 -- no cut has more bytes
 abbrev pub longest : ℕ
 longest = 2 * limits .events + 1
 
 -- THE NEXT ROOM: the call is answered 0, and the sets that were to be listed are those that it wrote and those after its last set
-pub record Next (n : ℕ) (d : Diagram) (begin : Bool) (ws room′ : List ℕ) (number count used : ℕ) (last : List ℕ) (finished : Bool) : Type 0 where
+pub record Next (n : ℕ) (d : Diagram) (begin : Bool) (ws room′ : List ℕ) (number place count used : ℕ) (last : List ℕ) (finished : Bool) : Type 0 where
   pub is : number ≡ 0
+  pub no-place : place ≡ 0
   pub written : List Set
   pub left : List Set
   pub whole : toList n d begin ws ≡ written ++ left
   pub after : toList n d false last ≡ left
-  pub within : Within n false last
+  pub within : GoodStart n false last
   pub inside : used ≤ length room′
   pub bytes : take used room′ ≡ setsBytes n written
   pub cuts : count ≡ length written

@@ -18,11 +18,19 @@ pub record Priced (t : Tree) (T : List ℕ) (c root : ℕ) : Type 0 where
   pub lent : Lent false (t .«event_count») T c root
   pub chances : Chances (t .«event_count») (chancesOf (t .events))
 
+-- the low and the high number of a tree's root, by the chances of its events
+abbrev pub lowOf : Tree → List ℕ → ℕ → ℕ
+lowOf t T root = low billion (chanceIn (chancesOf (t .events))) (den T root)
+
+abbrev pub highOf : Tree → List ℕ → ℕ → ℕ
+highOf t T root = high billion (chanceIn (chancesOf (t .events))) (den T root)
+
 -- the bracket is answered 0, with both numbers
-pub record Topped (t : Tree) (T : List ℕ) (root number lo hi : ℕ) : Type 0 where
+pub record Topped (t : Tree) (T : List ℕ) (root number place lo hi : ℕ) : Type 0 where
   pub is : number ≡ 0
-  pub low-is : lo ≡ low billion (chanceIn (chancesOf (t .events))) (den T root)
-  pub high-is : hi ≡ high billion (chanceIn (chancesOf (t .events))) (den T root)
+  pub no-place : place ≡ 0
+  pub low-is : lo ≡ lowOf t T root
+  pub high-is : hi ≡ highOf t T root
 
 -- WHAT A DONE ANALYSIS of a tree's bytes leaves: a table to bracket and a table to list
 pub record Held (t : Tree) (T C : List ℕ) (a : Analysis) : Type 0 where

@@ -7,7 +7,7 @@ ghost use Prim.Native.Nat.{_≤_, _/_};
 ghost use lib.ListN.{length};
 ghost use Rattle.tables.specs.Table.{den};
 ghost use Rattle.tables.specs.Lent.{Lent};
-ghost use Rattle.listing.specs.Answers.{Within};
+ghost use Rattle.listing.specs.Answers.{GoodStart};
 ghost use Rattle.followup.specs.Rooms.{longest, Next};
 ghost use Rattle.followup.specs.Tops.{Priced, Topped};
 
@@ -22,9 +22,9 @@ pub fn next_room(
     room: &mut [u8],
 ) -> Listed
     requires { ⌜ Lent true events (now cuts) count root ⌝ }
-    requires { ⌜ Within events begin s ⌝ }
+    requires { ⌜ GoodStart events begin s ⌝ }
     requires { ⌜ longest ≤ length (now room) ⌝ }
-    ensures { λ r. ⌜ Next events (den (now (cuts .entry)) root) begin s (now (room .exit)) (r .number) (r .count) (r .used) (r .last) (r .finished) ⌝ }
+    ensures { λ r. ⌜ Next events (den (now (cuts .entry)) root) begin s (now (room .exit)) (r .number) (r .place) (r .count) (r .used) (r .last) (r .finished) ⌝ }
 {
     analyser::list(cuts, events, count, root, begin, s, room)
 }
@@ -40,7 +40,7 @@ pub fn top(
 ) -> Ends
     requires { ⌜ Priced tree (now nodes) count root ⌝ }
     requires { ⌜ (length (now nodes) / 3 ≤ length (now lows)) × (length (now nodes) / 3 ≤ length (now highs)) ⌝ }
-    ensures { λ r. ⌜ Topped tree (now (nodes .entry)) root (r .number) (r .low) (r .high) ⌝ }
+    ensures { λ r. ⌜ Topped tree (now (nodes .entry)) root (r .number) (r .place) (r .low) (r .high) ⌝ }
 {
     let events = tree.event_count;
     let all = tree.events;

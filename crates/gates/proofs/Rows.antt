@@ -137,9 +137,6 @@ module _ {G own : List ℕ} {T : List ℕ} {c i : ℕ} {T₁ H₁ X₁ R : List 
   same-gates = row-map (sym (map-long T G)) (a .gates)
 
   module _ (l : i < length own) where
-    this : Input
-    this = inputOf (getD own i 0)
-
     longer : take (i + 1) (map inputOf own) ≡ take i (map inputOf own) ++ (inputOf (getD own i 0) ∷ [])
     longer = ap (λ k. take k (map inputOf own)) (add-one i)
         ∙ take-suc (map inputOf own) i (event 0) (let e = codes-long own in omega arith)

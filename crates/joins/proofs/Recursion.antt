@@ -21,7 +21,7 @@ use Rattle.store.proofs.Denotes.{den-grown}
 use Rattle.store.proofs.Building.{makes-here, step-more, stops-more, step-seq, stops-seq, still, tidy-step, is-part, part-trans}
 use Rattle.store.proofs.Memory.{memo-keep, memo-map, place-kept}
 use Rattle.pairs.specs.Pairs.{bit, Right, Parted, Answers, Finished, Finishes}
-use Rattle.pairs.specs.declared.Parts.{Parts}
+use Rattle.store.specs.declared.Parts.{Parts}
 use Rattle.pairs.proofs.Apart.{join-arranged}
 use Rattle.joins.specs.Joins.{Ready, Joined, Joins}
 

@@ -26,7 +26,7 @@ use Rattle.tables.specs.Table.{den}
 use Rattle.tables.specs.Lent.{Lent}
 use Rattle.tables.proofs.Lent.{root-ordered}
 use Rattle.walk.specs.After.{toList}
-use Rattle.listing.specs.Answers.{startOf, Within, Short, NoneAfter, Refused, Answered}
+use Rattle.listing.specs.Answers.{startOf, GoodStart, Short, NoneAfter, Refused, Answered}
 use Rattle.listing.specs.Calls.{Refusal, Listing}
 
 -- ---- what fits
@@ -77,7 +77,7 @@ within-set n ws h i l = go (setOf ws i) refl
     go true e = absurd (h (record { event = i; above = l; is = e }))
     go false e = e
 
-module _ (n : ℕ) (d : Diagram) (o : Ordered 0 n d) (begin : Bool) (ws : List ℕ) (ok : Within n begin ws) where
+module _ (n : ℕ) (d : Diagram) (o : Ordered 0 n d) (begin : Bool) (ws : List ℕ) (ok : GoodStart n begin ws) where
   before : (b : Bool) → begin ≡ b → (p : List Set) × (setsOf d ≡ p ++ toList n d b ws)
   before true e = ([], refl)
   before false e = rest-suffix n (setOf ws) (within-set n ws (ok e)) (setsOf d) (sets-sorted n 0 d o)
@@ -112,9 +112,9 @@ module _ {n : ℕ} {d : Diagram} {L : Set} {q : List Set} (l : Left n d L q) whe
 
 -- ---- the answers
 
-module _ {n : ℕ} {T : List ℕ} {c root : ℕ} (lent : Lent true n T c root) (begin : Bool) (ws : List ℕ) (ok : Within n begin ws) where
-  pub done-of : {S : Set} {rm rm′ : List ℕ} {number count used : ℕ} {last : List ℕ} {finished : Bool} → S ≡ startOf begin ws
-      → Listing n (toList n (den T root) begin ws) S rm rm′ number count used last finished → Answered n T c root begin ws rm rm′ number count used last finished
+module _ {n : ℕ} {T : List ℕ} {c root : ℕ} (lent : Lent true n T c root) (begin : Bool) (ws : List ℕ) (ok : GoodStart n begin ws) where
+  pub done-of : {S : Set} {rm rm′ : List ℕ} {number place count used : ℕ} {last : List ℕ} {finished : Bool} → S ≡ startOf begin ws
+      → Listing n (toList n (den T root) begin ws) S rm rm′ number place count used last finished → Answered n T c root begin ws rm rm′ number place count used last finished
   done-of s (Listing.short h r) = Answered.short lent ok h r
   done-of {S} {rm} {used = used} {last} {finished} s (Listing.wrote w) =
       let fit : w .written ≡ fitting n (length rm) (toList n (den T root) begin ws) = sym (ap (fitting n (length rm)) (w .whole) ∙ fitting-all n (length rm) (w .written) (w .left) (w .within) (w .full)) in
@@ -122,6 +122,7 @@ module _ {n : ℕ} {T : List ℕ} {c root : ℕ} (lent : Lent true n T c root) (
       let last-is : setOf last ≡ lastOr (startOf begin ws) (w .written) = w .last-set ∙ ap (λ (U : Set). lastOr U (w .written)) s in
       Answered.done lent ok (not-short n (length rm) (toList n (den T root) begin ws) (w .written) (w .left) (w .whole) (w .within) (w .some)) (record {
         is = w .is;
+        no-place = w .no-place;
         cuts = w .cuts ∙ ap length fit;
         long = w .long ∙ ap (λ (x : List Set). length (setsBytes n x)) fit;
         bytes = w .bytes ∙ ap (λ (x : List Set). setsBytes n x ++ drop used rm) fit;
@@ -130,30 +131,30 @@ module _ {n : ℕ} {T : List ℕ} {c root : ℕ} (lent : Lent true n T c root) (
       })
 
 -- a refusal, as the code makes it
-refuse : {m : ℕ} (rm : List ℕ) {number count used : ℕ} {last : List ℕ} {finished : Bool} → Refusal m number count used last finished → Refused m rm rm number count used last finished
-refuse rm r = record { is = r .is; no-cut = r .no-cut; no-byte = r .no-byte; empty-set = r .empty-set; unfinished = r .unfinished; kept = refl }
+refuse : {m : ℕ} (rm : List ℕ) {number place count used : ℕ} {last : List ℕ} {finished : Bool} → Refusal m number place count used last finished → Refused m rm rm number place count used last finished
+refuse rm r = record { is = r .is; no-place = r .no-place; no-cut = r .no-cut; no-byte = r .no-byte; empty-set = r .empty-set; unfinished = r .unfinished; kept = refl }
 
-module _ {n : ℕ} {T : List ℕ} {c root : ℕ} (begin : Bool) (ws rm : List ℕ) {number count used : ℕ} {last : List ℕ} {finished : Bool} where
-  pub answer-12 : (Lent true n T c root → ⊥) → Refusal 12 number count used last finished → Answered n T c root begin ws rm rm number count used last finished
+module _ {n : ℕ} {T : List ℕ} {c root : ℕ} (begin : Bool) (ws rm : List ℕ) {number place count used : ℕ} {last : List ℕ} {finished : Bool} where
+  pub answer-12 : (Lent true n T c root → ⊥) → Refusal 12 number place count used last finished → Answered n T c root begin ws rm rm number place count used last finished
   answer-12 h r = Answered.no-diagram h (refuse rm r)
 
   module _ (lent : Lent true n T c root) where
     -- the lowest event of the set from n on is one
     pub answer-13 : {x : ℕ} → begin ≡ false → length ws ≡ words → Lowest (setOf ws) (room ws) n x → x < words * 64
-        → Refusal 13 number count used last finished → Answered n T c root begin ws rm rm number count used last finished
+        → Refusal 13 number place count used last finished → Answered n T c root begin ws rm rm number place count used last finished
     answer-13 {x} e four lo h r = Answered.beyond lent e (record { event = x; above = lo .above (omega arith); is = lo .is (omega arith) }) (refuse rm r)
 
-    pub answer-all : {base rm′ : List ℕ} → begin ≡ true → base ≡ replicate words 0 → Listing n (setsOf (den T root)) (setOf base) rm rm′ number count used last finished
-        → Answered n T c root begin ws rm rm′ number count used last finished
+    pub answer-all : {base rm′ : List ℕ} → begin ≡ true → base ≡ replicate words 0 → Listing n (setsOf (den T root)) (setOf base) rm rm′ number place count used last finished
+        → Answered n T c root begin ws rm rm′ number place count used last finished
     answer-all {rm′ = rm′} e q l =
-        subst (λ (b : Bool). Answered n T c root b ws rm rm′ number count used last finished) (sym e)
+        subst (λ (b : Bool). Answered n T c root b ws rm rm′ number place count used last finished) (sym e)
         (done-of lent true ws (λ z. absurd (true≢false z)) (ap setOf q ∙ empty-none words) l)
 
     -- there is none, so the set is within the events
     pub answer-after : {x : ℕ} {rm′ : List ℕ} → begin ≡ false → length ws ≡ words → Lowest (setOf ws) (room ws) n x → words * 64 ≤ x
-        → Listing n (rest n (setOf ws) (setsOf (den T root))) (setOf ws) rm rm′ number count used last finished → Answered n T c root begin ws rm rm′ number count used last finished
+        → Listing n (rest n (setOf ws) (setsOf (den T root))) (setOf ws) rm rm′ number place count used last finished → Answered n T c root begin ws rm rm′ number place count used last finished
     answer-after {x} {rm′} e four lo h l =
-        subst (λ (b : Bool). Answered n T c root b ws rm rm′ number count used last finished) (sym e)
+        subst (λ (b : Bool). Answered n T c root b ws rm rm′ number place count used last finished) (sym e)
         (done-of lent false ws (λ _. outside) refl l)
       where
         outside : Beyond n (setOf ws) → ⊥

@@ -96,8 +96,8 @@ module _ {n : ℕ} {T : List ℕ} {c : ℕ} {l : List Set} {base room₀ room P 
       go (suc j) e = let h = r .last (omega arith) in s (h .0) ∙ h .1
 
   -- the loop ends: no cut is left
-  pub run-end : {last : List ℕ} {a k′ used′ : ℕ} {last′ : List ℕ} {fin : Bool} → found ≡ false → (used ≤ from → last ≡ base) × (from < used → setOf last ≡ ofEvents (picked room from ((used - from) / 2)))
-      → (a ≡ 0) × (k′ ≡ k) × (used′ ≡ used) × (last′ ≡ last) × (fin ≡ true) → Listing n l (setOf base) room₀ room a k′ used′ last′ fin
+  pub run-end : {last : List ℕ} {a b k′ used′ : ℕ} {last′ : List ℕ} {fin : Bool} → found ≡ false → (used ≤ from → last ≡ base) × (from < used → setOf last ≡ ofEvents (picked room from ((used - from) / 2)))
+      → (a ≡ 0) × (b ≡ 0) × (k′ ≡ k) × (used′ ≡ used) × (last′ ≡ last) × (fin ≡ true) → Listing n l (setOf base) room₀ room a b k′ used′ last′ fin
   run-end {last} e q y =
       let z : r .left ≡ [] = r .left-is ∙ ap (λ (f : Bool). leftOf f T P d) e in
       let u = r .bytes-used in
@@ -110,11 +110,12 @@ module _ {n : ℕ} {T : List ℕ} {c : ℕ} {l : List Set} {base room₀ room P 
         full = λ S y p. absurd (nil-cons (sym z ∙ p));
         some = λ _. z;
         is = y .0;
-        cuts = y .1 ∙ r .count;
-        long = y .2 ∙ r .bytes-used;
-        bytes = r .bytes ∙ ap (λ (j : ℕ). setsBytes n (r .written) ++ drop j room₀) (sym (y .2));
-        last-set = ap setOf (y .3) ∙ run-last last (q .0) (q .1);
-        end = (λ _. z, λ _. y .4);
+        no-place = y .1;
+        cuts = y .2 ∙ r .count;
+        long = y .3 ∙ r .bytes-used;
+        bytes = r .bytes ∙ ap (λ (j : ℕ). setsBytes n (r .written) ++ drop j room₀) (sym (y .3));
+        last-set = ap setOf (y .4) ∙ run-last last (q .0) (q .1);
+        end = (λ _. z, λ _. y .5);
       })
 
   module _ (is : found ≡ true) where
@@ -126,14 +127,14 @@ module _ {n : ℕ} {T : List ℕ} {c : ℕ} {l : List Set} {base room₀ room P 
       pub short-inside : (from ≤ used) × (used ≤ length room′)
       short-inside = subst (λ (x : List ℕ). (from ≤ used) × (used ≤ length x)) (sym (pl .short z .1)) run-inside
 
-      pub run-short : {last : List ℕ} {a k′ used′ : ℕ} {last′ : List ℕ} {fin : Bool} → (used ≤ from → last ≡ base) × (from < used → setOf last ≡ ofEvents (picked room′ from ((used - from) / 2)))
-          → Stopped k used last a k′ used′ last′ fin → Listing n l (setOf base) room₀ room′ a k′ used′ last′ fin
-      run-short {last} {a} {k′} {used′} {last′} {fin} q st = judge k refl
+      pub run-short : {last : List ℕ} {a b k′ used′ : ℕ} {last′ : List ℕ} {fin : Bool} → (used ≤ from → last ≡ base) × (from < used → setOf last ≡ ofEvents (picked room′ from ((used - from) / 2)))
+          → Stopped k used last a b k′ used′ last′ fin → Listing n l (setOf base) room₀ room′ a b k′ used′ last′ fin
+      run-short {last} {a} {b} {k′} {used′} {last′} {fin} q st = judge k refl
         where
           long : length room < used + length (setBytes n (along T (take d P)))
           long = pl .short z .0
 
-          judge : (j : ℕ) → k ≡ j → Listing n l (setOf base) room₀ room′ a k′ used′ last′ fin
+          judge : (j : ℕ) → k ≡ j → Listing n l (setOf base) room₀ room′ a b k′ used′ last′ fin
           judge zero e =
               let f = st .none-yet e in
               let none-written : r .written ≡ [] = len-zero (r .written) (sym (r .count) ∙ e) in
@@ -143,6 +144,7 @@ module _ {n : ℕ} {T : List ℕ} {c : ℕ} {l : List Set} {base room₀ room P 
               let all : l ≡ along T (take d P) ∷ around T (take d P) [] = r .whole ∙ ap (λ (p : List Set). p ++ r .left) none-written ∙ next in
               short (subst (Short n (length room₀)) (sym all) (omega arith)) (record {
                 is = f .is;
+                no-place = f .no-place;
                 no-cut = f .no-cut;
                 no-byte = f .no-byte;
                 empty-set = f .empty-set;
@@ -166,11 +168,12 @@ module _ {n : ℕ} {T : List ℕ} {c : ℕ} {l : List Set} {base room₀ room P 
                     omega arith;
                 some = λ none. absurd (let a : length (r .written) ≡ 0 = ap length none in let b = r .count in omega arith);
                 is = y .0;
-                cuts = y .1 ∙ r .count;
-                long = y .2 ∙ r .bytes-used;
-                bytes = pl .short z .1 ∙ r .bytes ∙ ap (λ (j : ℕ). setsBytes n (r .written) ++ drop j room₀) (sym (y .2));
-                last-set = ap setOf (y .3) ∙ run-last last (q .0) (λ h. q .1 h ∙ ap (λ (x : List ℕ). ofEvents (picked x from ((used - from) / 2))) (pl .short z .1));
-                end = (λ t. absurd (false≢true (sym (y .4) ∙ t)), λ x. absurd (nil-cons (sym x ∙ next)));
+                no-place = y .1;
+                cuts = y .2 ∙ r .count;
+                long = y .3 ∙ r .bytes-used;
+                bytes = pl .short z .1 ∙ r .bytes ∙ ap (λ (j : ℕ). setsBytes n (r .written) ++ drop j room₀) (sym (y .3));
+                last-set = ap setOf (y .4) ∙ run-last last (q .0) (λ h. q .1 h ∙ ap (λ (x : List ℕ). ofEvents (picked x from ((used - from) / 2))) (pl .short z .1));
+                end = (λ t. absurd (false≢true (sym (y .5) ∙ t)), λ x. absurd (nil-cons (sym x ∙ next)));
               })
 
     -- it was written

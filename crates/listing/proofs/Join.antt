@@ -57,8 +57,8 @@ pub record Part (n : ℕ) (d : Diagram) (l w : List Set) (room′ : List ℕ) (c
   pub after : Left n d (setOf last) q
   pub end : (finished ≡ true) ↔ (q ≡ [])
 
-module _ {n : ℕ} {T : List ℕ} {c root : ℕ} {begin : Bool} {ws room room′ : List ℕ} {count used : ℕ} {last : List ℕ} {finished : Bool} where
-  pub part : Answered n T c root begin ws room room′ 0 count used last finished → Part n (den T root) (toList n (den T root) begin ws) (fitting n (length room) (toList n (den T root) begin ws)) room′ count used last finished
+module _ {n : ℕ} {T : List ℕ} {c root : ℕ} {begin : Bool} {ws room room′ : List ℕ} {place count used : ℕ} {last : List ℕ} {finished : Bool} where
+  pub part : Answered n T c root begin ws room room′ 0 place count used last finished → Part n (den T root) (toList n (den T root) begin ws) (fitting n (length room) (toList n (den T root) begin ws)) room′ count used last finished
   part (Answered.no-diagram h x) = absurd (let e = x .is in omega arith)
   part (Answered.beyond v e p x) = absurd (let e = x .is in omega arith)
   part (Answered.short v ok s x) = absurd (let e = x .is in omega arith)
@@ -79,14 +79,14 @@ module _ {n : ℕ} {T : List ℕ} {c root : ℕ} {begin : Bool} {ws room room′
       }
 
   -- ON: a call that is not the last writes a set, so fewer are left after it
-  pub goes-on : Answered n T c root begin ws room room′ 0 count used last finished → finished ≡ false → 0 < count
+  pub goes-on : Answered n T c root begin ws room room′ 0 place count used last finished → finished ≡ false → 0 < count
   goes-on a f = let p = part a in go (fitting n (length room) (toList n (den T root) begin ws)) (p .cuts) (λ z. p .end .1 (p .some z))
     where
       go : (w : List Set) → count ≡ length w → (w ≡ [] → finished ≡ true) → 0 < count
       go [] e h = absurd (let x : _≡_ {A = ℕ} 0 1 = let t = h refl in cc in omega arith)
       go (S ∷ w) e h = omega arith
 
-  pub falls : Answered n T c root begin ws room room′ 0 count used last finished → length (toList n (den T root) false last) + count ≡ length (toList n (den T root) begin ws)
+  pub falls : Answered n T c root begin ws room room′ 0 place count used last finished → length (toList n (den T root) false last) + count ≡ length (toList n (den T root) begin ws)
   falls a =
       let p = part a in
       let e = ap length (p .after .is) in

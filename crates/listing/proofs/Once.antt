@@ -10,12 +10,13 @@ use Rattle.paper.specs.Diagrams.{Diagram}
 use Rattle.paper.specs.Listing.{setsBytes}
 use Rattle.algebra.proofs.Lists.{bool-iff}
 use Rattle.sets.specs.Words.{words, setOf, Array}
-use Rattle.sets.proofs.Order.{words-same}
-use Rattle.listing.specs.Answers.{NoneAfter, Refused, Done, Answered}
+use Rattle.sets.proofs.Words.{words-same}
+use Rattle.listing.specs.Answers.{NoneAfter, Refused, Written, Answered}
 
 -- all that a call answers and leaves
 pub record Outcome : Type 0 where
   pub number : ℕ
+  pub place : ℕ
   pub count : ℕ
   pub used : ℕ
   pub last : List ℕ
@@ -25,30 +26,30 @@ pub record Outcome : Type 0 where
 -- an outcome that the contract allows, of an array of words
 pub record Allowed (n : ℕ) (T : List ℕ) (c root : ℕ) (begin : Bool) (ws room : List ℕ) (x : Outcome) : Type 0 where
   pub array : Array words (x .last)
-  pub answer : Answered n T c root begin ws room (x .room) (x .number) (x .count) (x .used) (x .last) (x .finished)
+  pub answer : Answered n T c root begin ws room (x .room) (x .number) (x .place) (x .count) (x .used) (x .last) (x .finished)
 
 module _ (x y : Outcome) where
-  equal : x .number ≡ y .number → x .count ≡ y .count → x .used ≡ y .used → x .last ≡ y .last → x .finished ≡ y .finished → x .room ≡ y .room → x ≡ y
-  equal p q r s t u = λ i. record { number = p i; count = q i; used = r i; last = s i; finished = t i; room = u i }
+  equal : x .number ≡ y .number → x .place ≡ y .place → x .count ≡ y .count → x .used ≡ y .used → x .last ≡ y .last → x .finished ≡ y .finished → x .room ≡ y .room → x ≡ y
+  equal p w q r s t u = λ i. record { number = p i; place = w i; count = q i; used = r i; last = s i; finished = t i; room = u i }
 
   abbrev Refuses : ℕ → List ℕ → Outcome → Type 0
-  Refuses m room z = Refused m room (z .room) (z .number) (z .count) (z .used) (z .last) (z .finished)
+  Refuses m room z = Refused m room (z .room) (z .number) (z .place) (z .count) (z .used) (z .last) (z .finished)
 
   refused-once : (m : ℕ) (room : List ℕ) → Refuses m room x → Refuses m room y → x ≡ y
   refused-once m room p q =
-      equal (p .is ∙ sym (q .is)) (p .no-cut ∙ sym (q .no-cut)) (p .no-byte ∙ sym (q .no-byte)) (p .empty-set ∙ sym (q .empty-set)) (p .unfinished ∙ sym (q .unfinished)) (p .kept ∙ sym (q .kept))
+      equal (p .is ∙ sym (q .is)) (p .no-place ∙ sym (q .no-place)) (p .no-cut ∙ sym (q .no-cut)) (p .no-byte ∙ sym (q .no-byte)) (p .empty-set ∙ sym (q .empty-set)) (p .unfinished ∙ sym (q .unfinished)) (p .kept ∙ sym (q .kept))
 
-  done-once : {n : ℕ} {d : Diagram} {S : Set} {w : List Set} {room : List ℕ} → Array words (x .last) → Array words (y .last) → Done n d S w room (x .room) (x .number) (x .count) (x .used) (x .last) (x .finished)
-      → Done n d S w room (y .room) (y .number) (y .count) (y .used) (y .last) (y .finished) → x ≡ y
+  done-once : {n : ℕ} {d : Diagram} {S : Set} {w : List Set} {room : List ℕ} → Array words (x .last) → Array words (y .last) → Written n d S w room (x .room) (x .number) (x .place) (x .count) (x .used) (x .last) (x .finished)
+      → Written n d S w room (y .room) (y .number) (y .place) (y .count) (y .used) (y .last) (y .finished) → x ≡ y
   done-once {n} {d} {w = w} {room} a b p q =
       let u : x .used ≡ y .used = p .long ∙ sym (q .long) in
       let l : setOf (x .last) ≡ setOf (y .last) = p .last-set ∙ sym (q .last-set) in
       let f : x .finished ≡ y .finished =
       bool-iff (x .finished) (y .finished) (λ t. q .end .1 (subst (NoneAfter d) l (p .end .0 t))) (λ t. p .end .1 (subst (NoneAfter d) (sym l) (q .end .0 t))) in
-      equal (p .is ∙ sym (q .is)) (p .cuts ∙ sym (q .cuts)) u (words-same a b l) f (p .bytes ∙ ap (λ (k : ℕ). setsBytes n w ++ drop k room) u ∙ sym (q .bytes))
+      equal (p .is ∙ sym (q .is)) (p .no-place ∙ sym (q .no-place)) (p .cuts ∙ sym (q .cuts)) u (words-same a b l) f (p .bytes ∙ ap (λ (k : ℕ). setsBytes n w ++ drop k room) u ∙ sym (q .bytes))
 
   module _ {n : ℕ} {T : List ℕ} {c root : ℕ} {begin : Bool} {ws room : List ℕ} (a : Array words (x .last)) (b : Array words (y .last)) where
-    go : Answered n T c root begin ws room (x .room) (x .number) (x .count) (x .used) (x .last) (x .finished) → Answered n T c root begin ws room (y .room) (y .number) (y .count) (y .used) (y .last) (y .finished) → x ≡ y
+    go : Answered n T c root begin ws room (x .room) (x .number) (x .place) (x .count) (x .used) (x .last) (x .finished) → Answered n T c root begin ws room (y .room) (y .number) (y .place) (y .count) (y .used) (y .last) (y .finished) → x ≡ y
     go (Answered.no-diagram h p) (Answered.no-diagram k q) = refused-once 12 room p q
     go (Answered.no-diagram h p) (Answered.beyond v e i q) = absurd (h v)
     go (Answered.no-diagram h p) (Answered.short v ok s q) = absurd (h v)

@@ -15,7 +15,7 @@ use Rattle.algebra.proofs.Lists.{bool-iff}
 use Rattle.tables.specs.Table.{den}
 use Rattle.tables.specs.Lent.{Lent}
 use Rattle.walk.specs.After.{toList}
-use Rattle.listing.specs.Answers.{Within, Short, Answered}
+use Rattle.listing.specs.Answers.{GoodStart, Short, Answered}
 use Rattle.listing.proofs.Join.{Part, part}
 
 listed-short : (n size : ℕ) (l : List Set) → Short n size l → listed n size l ≡ record { number = 14; written = fitting n size l; finished = false }
@@ -46,14 +46,14 @@ all-written w q finished h =
 result : {a b : ℕ} {x y : Bool} {w : List Set} → a ≡ b → x ≡ y → _≡_ {A = Listed} (record { number = a; written = w; finished = x }) (record { number = b; written = w; finished = y })
 result {w = w} p q = λ i. record { number = p i; written = w; finished = q i }
 
-module _ {n : ℕ} {T : List ℕ} {c root : ℕ} {begin : Bool} {ws room room′ : List ℕ} {number count used : ℕ} {last : List ℕ} {finished : Bool} where
+module _ {n : ℕ} {T : List ℕ} {c root : ℕ} {begin : Bool} {ws room room′ : List ℕ} {number place count used : ℕ} {last : List ℕ} {finished : Bool} where
   -- THE ANSWER after 12 and 13
-  pub is-listed : Lent true n T c root → Within n begin ws → Answered n T c root begin ws room room′ number count used last finished
+  pub is-listed : Lent true n T c root → GoodStart n begin ws → Answered n T c root begin ws room room′ number place count used last finished
       → listed n (length room) (toList n (den T root) begin ws) ≡ record { number = number; written = fitting n (length room) (toList n (den T root) begin ws); finished = finished }
   is-listed lent ok (Answered.no-diagram h x) = absurd (h lent)
   is-listed lent ok (Answered.beyond v e p x) = absurd (ok e p)
   is-listed lent ok (Answered.short v ok′ s x) = listed-short n (length room) (toList n (den T root) begin ws) s ∙ result (sym (x .is)) (sym (x .unfinished))
   is-listed lent ok (Answered.done v ok′ s x) =
       let w = fitting n (length room) (toList n (den T root) begin ws) in
-      let p : Part n (den T root) (toList n (den T root) begin ws) w room′ count used last finished = part (subst (λ (k : ℕ). Answered n T c root begin ws room room′ k count used last finished) (x .is) (Answered.done v ok′ s x)) in
+      let p : Part n (den T root) (toList n (den T root) begin ws) w room′ count used last finished = part (subst (λ (k : ℕ). Answered n T c root begin ws room room′ k place count used last finished) (x .is) (Answered.done v ok′ s x)) in
       listed-done n (length room) (toList n (den T root) begin ws) s ∙ result (sym (x .is)) (sym (all-written w (p .q) finished (p .end) ∙ ap (λ (l : List Set). eqb (length w) (length l)) (sym (p .whole))))

@@ -24,8 +24,8 @@ startOf true ws = none
 startOf false ws = setOf ws
 
 -- 13 is not due: the call starts from the beginning, or after a set of the n events
-abbrev pub Within : ℕ → Bool → List ℕ → Type 0
-Within n begin ws = begin ≡ false → Beyond n (setOf ws) → ⊥
+abbrev pub GoodStart : ℕ → Bool → List ℕ → Type 0
+GoodStart n begin ws = begin ≡ false → Beyond n (setOf ws) → ⊥
 
 -- there is a first of the sets l, and so many bytes are too few for it
 abbrev pub Short : ℕ → ℕ → List Set → Type 0
@@ -37,8 +37,9 @@ abbrev pub NoneAfter : Diagram → Set → Type 0
 NoneAfter d S = (T : Set) → In T (setsOf d) → Before S T → ⊥
 
 -- a refusal with number m: nothing is written, and all else is zero, the empty set, and "not finished"
-pub record Refused (m : ℕ) (room room′ : List ℕ) (number count used : ℕ) (last : List ℕ) (finished : Bool) : Type 0 where
+pub record Refused (m : ℕ) (room room′ : List ℕ) (number place count used : ℕ) (last : List ℕ) (finished : Bool) : Type 0 where
   pub is : number ≡ m
+  pub no-place : place ≡ 0
   pub no-cut : count ≡ 0
   pub no-byte : used ≡ 0
   pub empty-set : last ≡ replicate words 0
@@ -46,8 +47,9 @@ pub record Refused (m : ℕ) (room room′ : List ℕ) (number count used : ℕ)
   pub kept : room′ ≡ room
 
 -- number 0: the sets w are written, for a family d and a start S; the bytes behind them stay; finished exactly if no set comes after the last
-pub record Done (n : ℕ) (d : Diagram) (S : Set) (w : List Set) (room room′ : List ℕ) (number count used : ℕ) (last : List ℕ) (finished : Bool) : Type 0 where
+pub record Written (n : ℕ) (d : Diagram) (S : Set) (w : List Set) (room room′ : List ℕ) (number place count used : ℕ) (last : List ℕ) (finished : Bool) : Type 0 where
   pub is : number ≡ 0
+  pub no-place : place ≡ 0
   pub cuts : count ≡ length w
   pub long : used ≡ length (setsBytes n w)
   pub bytes : room′ ≡ setsBytes n w ++ drop used room
@@ -55,11 +57,11 @@ pub record Done (n : ℕ) (d : Diagram) (S : Set) (w : List Set) (room room′ :
   pub end : (finished ≡ true) ↔ NoneAfter d (setOf last)
 
 -- THE CONTRACT of `list`: 12, then 13, then 14; else as many whole sets as fit, in order, of those after the start
-pub data Answered (n : ℕ) (T : List ℕ) (c root : ℕ) (begin : Bool) (ws room room′ : List ℕ) (number count used : ℕ) (last : List ℕ) (finished : Bool) : Type 0 where
-  no-diagram : (Lent true n T c root → ⊥) → Refused 12 room room′ number count used last finished → Answered n T c root begin ws room room′ number count used last finished
-  beyond : Lent true n T c root → begin ≡ false → Beyond n (setOf ws) → Refused 13 room room′ number count used last finished → Answered n T c root begin ws room room′ number count used last finished
-  short : Lent true n T c root → Within n begin ws → Short n (length room) (toList n (den T root) begin ws)
-      → Refused 14 room room′ number count used last finished → Answered n T c root begin ws room room′ number count used last finished
-  done : Lent true n T c root → Within n begin ws → (Short n (length room) (toList n (den T root) begin ws) → ⊥)
-      → Done n (den T root) (startOf begin ws) (fitting n (length room) (toList n (den T root) begin ws)) room room′ number count used last finished
-      → Answered n T c root begin ws room room′ number count used last finished
+pub data Answered (n : ℕ) (T : List ℕ) (c root : ℕ) (begin : Bool) (ws room room′ : List ℕ) (number place count used : ℕ) (last : List ℕ) (finished : Bool) : Type 0 where
+  no-diagram : (Lent true n T c root → ⊥) → Refused 12 room room′ number place count used last finished → Answered n T c root begin ws room room′ number place count used last finished
+  beyond : Lent true n T c root → begin ≡ false → Beyond n (setOf ws) → Refused 13 room room′ number place count used last finished → Answered n T c root begin ws room room′ number place count used last finished
+  short : Lent true n T c root → GoodStart n begin ws → Short n (length room) (toList n (den T root) begin ws)
+      → Refused 14 room room′ number place count used last finished → Answered n T c root begin ws room room′ number place count used last finished
+  done : Lent true n T c root → GoodStart n begin ws → (Short n (length room) (toList n (den T root) begin ws) → ⊥)
+      → Written n (den T root) (startOf begin ws) (fitting n (length room) (toList n (den T root) begin ws)) room room′ number place count used last finished
+      → Answered n T c root begin ws room room′ number place count used last finished

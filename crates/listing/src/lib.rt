@@ -56,9 +56,10 @@ fn last_set(room: &[u8], from: usize, used: usize, base: [u64; sets::WORDS]) -> 
     read_back(room, from, (used - from) / 2)
 }
 
-// What a listing call answers: its number, the cuts written, the bytes used, the last set, and whether no cut follows it.
+// What a listing call answers: its number, its place, which is 0 always, the cuts written, the bytes used, the last set, and whether no cut follows it.
 pub struct Listed {
     pub number: u8,
+    pub place: usize,
     pub count: usize,
     pub used: usize,
     pub last: [u64; sets::WORDS],
@@ -67,10 +68,11 @@ pub struct Listed {
 
 // A refusal, which writes nothing.
 fn refused(number: u8) -> Listed
-    ensures { λ r. ⌜ Refusal number (r .number) (r .count) (r .used) (r .last) (r .finished) ⌝ }
+    ensures { λ r. ⌜ Refusal number (r .number) (r .place) (r .count) (r .used) (r .last) (r .finished) ⌝ }
 {
     Listed {
         number,
+        place: 0,
         count: 0,
         used: 0,
         last: sets::empty(),
@@ -80,10 +82,11 @@ fn refused(number: u8) -> Listed
 
 // Number 0.
 fn done(count: usize, used: usize, last: [u64; sets::WORDS], finished: bool) -> Listed
-    ensures { λ r. ⌜ (r .number ≡ 0) × (r .count ≡ count) × (r .used ≡ used) × (r .last ≡ last) × (r .finished ≡ finished) ⌝ }
+    ensures { λ r. ⌜ (r .number ≡ 0) × (r .place ≡ 0) × (r .count ≡ count) × (r .used ≡ used) × (r .last ≡ last) × (r .finished ≡ finished) ⌝ }
 {
     Listed {
         number: 0,
+        place: 0,
         count,
         used,
         last,
@@ -93,7 +96,7 @@ fn done(count: usize, used: usize, last: [u64; sets::WORDS], finished: bool) -> 
 
 // The answer where the next cut does not fit.
 fn stopped(count: usize, used: usize, last: [u64; sets::WORDS]) -> Listed
-    ensures { λ r. ⌜ Stopped count used last (r .number) (r .count) (r .used) (r .last) (r .finished) ⌝ }
+    ensures { λ r. ⌜ Stopped count used last (r .number) (r .place) (r .count) (r .used) (r .last) (r .finished) ⌝ }
 {
     if count == 0 {
         return refused(14);
@@ -112,7 +115,7 @@ fn list_cuts(
     room: &mut [u8],
 ) -> Listed
     requires { ⌜ (Lent true n (now nodes) count root) × (length base ≡ words) ⌝ }
-    ensures { λ r. ⌜ Listing n (toList n (den (now (nodes .entry)) root) begin base) (setOf base) (now (room .entry)) (now (room .exit)) (r .number) (r .count) (r .used) (r .last) (r .finished) ⌝ }
+    ensures { λ r. ⌜ Listing n (toList n (den (now (nodes .entry)) root) begin base) (setOf base) (now (room .entry)) (now (room .exit)) (r .number) (r .place) (r .count) (r .used) (r .last) (r .finished) ⌝ }
 {
     let mut path = [0u32; DEPTH];
     let mut set = sets::empty();
@@ -149,7 +152,7 @@ pub fn list(
     s: [u64; sets::WORDS],
     room: &mut [u8],
 ) -> Listed
-    ensures { λ r. ⌜ Answered n (now (nodes .entry)) count root begin s (now (room .entry)) (now (room .exit)) (r .number) (r .count) (r .used) (r .last) (r .finished) ⌝ }
+    ensures { λ r. ⌜ Answered n (now (nodes .entry)) count root begin s (now (room .entry)) (now (room .exit)) (r .number) (r .place) (r .count) (r .used) (r .last) (r .finished) ⌝ }
 {
     if !tables::is_diagram(nodes, n, count, root, true) {
         return refused(12);

@@ -1,2 +1,3 @@
 -- The pages of a listing.
 pub mod Turning
+pub mod TopLine

@@ -12,7 +12,7 @@ use Rattle.paper.specs.Cuts.{cutList}
 use Rattle.tables.specs.Table.{den}
 use Rattle.walk.specs.After.{toList}
 use Rattle.memory.specs.Memory.{Memory}
-use Rattle.memory.specs.Outcome as said
+use Rattle.memory.specs.Outcome.{Done}
 use Rattle.memory.specs.declared.Analysis.{Analysis}
 use Rattle.followup.specs.Rooms.{Next}
 use Rattle.followup.proofs.Rooms.{fewer}
@@ -23,8 +23,8 @@ use Rattle.text.proofs.Spelling.{spelled-lines}
 use Rattle.matticklet.specs.Pages.{Page, Pages}
 
 -- the text of a room's bytes is a page
-pub room-page : {n : ℕ} {d : Diagram} {begin : Bool} {ws room′ : List ℕ} {number count used : ℕ} {last : List ℕ} {finished : Bool} {text′ : List ℕ} {end : ℕ}
-    → Next n d begin ws room′ number count used last finished → Front end text′ (spelled Start (take used room′)) → Page n d begin ws text′ end last finished
+pub room-page : {n : ℕ} {d : Diagram} {begin : Bool} {ws room′ : List ℕ} {number place count used : ℕ} {last : List ℕ} {finished : Bool} {text′ : List ℕ} {end : ℕ}
+    → Next n d begin ws room′ number place count used last finished → Front end text′ (spelled Start (take used room′)) → Page n d begin ws text′ end last finished
 room-page {n} {text′ = text′} {end} x f = record {
   written = x .written;
   left = x .left;
@@ -48,6 +48,6 @@ pages-are {n} (Pages.goes p more) =
     ap₂ (λ (x y : List ℕ). x ++ y) (p .lines .1) (pages-are more ∙ ap (cutLines n) (p .after)) ∙ sym (lines-append n (p .written) (p .left)) ∙ ap (cutLines n) (sym (p .whole))
 
 -- THE LINES of a done analysis' cuts: one for each minimal cut, in order
-pub lines-are-cuts : {t : Tree} {m m′ : Memory} {a : Analysis} {ws text : List ℕ} → said.Done t m m′ a → Pages (events t) (den (m′ .cuts) (a .«cut_root»)) true ws text
+pub lines-are-cuts : {t : Tree} {m m′ : Memory} {a : Analysis} {ws text : List ℕ} → Done t m m′ a → Pages (events t) (den (m′ .cuts) (a .«cut_root»)) true ws text
     → text ≡ cutLines (events t) (cutList (events t) (rootFun (t .gates)))
 lines-are-cuts {t} d p = pages-are p ∙ ap (cutLines (events t)) (d .cuts-are)

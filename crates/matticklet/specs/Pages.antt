@@ -9,7 +9,7 @@ use lib.ListN.{length, take}
 use Rattle.paper.specs.Sets.{Set}
 use Rattle.paper.specs.Diagrams.{Diagram}
 use Rattle.walk.specs.After.{toList}
-use Rattle.listing.specs.Answers.{Within}
+use Rattle.listing.specs.Answers.{GoodStart}
 use Rattle.text.specs.Lines.{cutLines}
 use Rattle.text.specs.Places.{Front}
 
@@ -19,7 +19,7 @@ pub record Page (n : ℕ) (d : Diagram) (begin : Bool) (ws text′ : List ℕ) (
   pub left : List Set
   pub whole : toList n d begin ws ≡ written ++ left
   pub after : toList n d false last ≡ left
-  pub within : Within n false last
+  pub within : GoodStart n false last
   pub lines : Front end text′ (cutLines n written)
   pub end-is : (finished ≡ true) ↔ (left ≡ [])
   pub fewer : finished ≡ false → length (toList n d false last) < length (toList n d begin ws)

@@ -1,9 +1,9 @@
 // The program: reads a tree from standard input, and writes its counts, its cuts and its top's bracket, or one line of refusal.
 use memory::Analysis;
 use records::Tree;
-ghost use Rattle.text.specs.Lines.{head as headText};
+ghost use Rattle.text.specs.Lines.{refusal as refusalText, head as headText, top as topText};
 ghost use Rattle.text.specs.Places.{Front};
-ghost use Rattle.followup.specs.Tops.{Held};
+ghost use Rattle.followup.specs.Tops.{Priced, lowOf, highOf, Held};
 
 mod pages; // pages.rt: the lines of the cuts, one room after another
 
@@ -17,9 +17,16 @@ const AREA: usize = 4098;
 
 const MEMO: usize = 65536;
 
-fn say_refusal(number: u8, place: usize) {
+// The line of a refusal: the number and place of the analysis.
+fn refusal_of(line: &mut [u8; text::ROOM], a: Analysis) -> usize
+    ensures { λ r. ⌜ Front r (now (line .exit)) (refusalText (a .number) (a .place)) ⌝ }
+{
+    text::refusal(line, a.number, a.place)
+}
+
+fn say_refusal(a: Analysis) {
     let mut line = [0u8; text::ROOM];
-    let n = text::refusal(&mut line, number, place);
+    let n = refusal_of(&mut line, a);
     io::write_all(1, &line[..n]);
 }
 
@@ -37,9 +44,33 @@ fn say_head(tree: Tree, a: Analysis) -> bool {
     io::write_all(1, &lines[..n])
 }
 
-fn say_top(low: u64, high: u64) {
+// The line behind the cuts: the low and the high number of the analysis' root.
+fn top_of(
+    line: &mut [u8; text::ROOM],
+    tree: Tree,
+    a: Analysis,
+    nodes: &[u32; TABLE],
+    lows: &mut [u32; AREA],
+    highs: &mut [u32; AREA],
+) -> usize
+    requires { ⌜ Priced tree (now nodes) (a .nodes) (a .root) ⌝ }
+    ensures { λ r. ⌜ Front r (now (line .exit)) (topText (lowOf tree (now (nodes .entry)) (a .root)) (highOf tree (now (nodes .entry)) (a .root))) ⌝ }
+{
+    let ends = followup::top(tree, nodes, a.nodes, a.root, lows, highs);
+    text::top(line, ends.low, ends.high)
+}
+
+fn say_top(
+    tree: Tree,
+    a: Analysis,
+    nodes: &[u32; TABLE],
+    lows: &mut [u32; AREA],
+    highs: &mut [u32; AREA],
+)
+    requires { ⌜ Priced tree (now nodes) (a .nodes) (a .root) ⌝ }
+{
     let mut line = [0u8; text::ROOM];
-    let n = text::top(&mut line, low, high);
+    let n = top_of(&mut line, tree, a, nodes, lows, highs);
     io::write_all(1, &line[..n]);
 }
 
@@ -60,8 +91,7 @@ fn report(
     if !pages::say_cuts(cuts, tree.event_count, a.cut_nodes, a.cut_root) {
         return;
     }
-    let ends = followup::top(tree, nodes, a.nodes, a.root, lows, highs);
-    say_top(ends.low, ends.high);
+    say_top(tree, a, nodes, lows, highs);
 }
 
 // Analyses a tree in tables of 4,096 nodes, and writes the answer.
@@ -86,7 +116,7 @@ fn answer(bytes: &[u8]) {
         &mut own,
     );
     if a.number != 0 {
-        say_refusal(a.number, a.place);
+        say_refusal(a);
         return;
     }
     let r = analyser::read(bytes);

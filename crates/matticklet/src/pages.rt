@@ -2,7 +2,7 @@
 ghost use mathlib.Core.Bool.{true};
 ghost use Rattle.tables.specs.Table.{den};
 ghost use Rattle.tables.specs.Lent.{Lent};
-ghost use Rattle.listing.specs.Answers.{Within};
+ghost use Rattle.listing.specs.Answers.{GoodStart};
 ghost use Rattle.matticklet.specs.Pages.{Page};
 
 // A room of a listing, and the text that it can come to: at most three bytes for each byte, and a number to spare.
@@ -28,7 +28,7 @@ fn page(
     text: &mut [u8; TEXT],
 ) -> Turned
     requires { ⌜ Lent true events (now cuts) count root ⌝ }
-    requires { ⌜ Within events begin s ⌝ }
+    requires { ⌜ GoodStart events begin s ⌝ }
     ensures { λ r. ⌜ Page events (den (now (cuts .entry)) root) begin s (now (text .exit)) (r .text) (r .last) (r .finished) ⌝ }
 {
     let mut room = [0u8; ROOM];

@@ -13,7 +13,7 @@ use Rattle.tables.proofs.Den.{den-node}
 use Rattle.store.specs.Store.{Store}
 use Rattle.store.proofs.Denotes.{below-or-not}
 use Rattle.pairs.specs.Pairs.{Arranged, Parted}
-use Rattle.pairs.specs.declared.Parts.{Parts}
+use Rattle.store.specs.declared.Parts.{Parts}
 use Rattle.algebra.proofs.JoinLaws.{join-first, join-second, join-both, join-comm}
 
 -- which operand is first is no matter

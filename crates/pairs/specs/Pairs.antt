@@ -14,7 +14,7 @@ use Rattle.store.specs.declared.Built.{Built}
 use Rattle.store.specs.declared.Built.the-variants.{Done, Short}
 use Rattle.store.specs.declared.Known.{Known}
 use Rattle.store.specs.declared.Known.the-variants.{Node, Unknown}
-use Rattle.pairs.specs.declared.Parts.{Parts}
+use Rattle.store.specs.declared.Parts.{Parts}
 
 -- the leaf of number z: it decides, and with 0, or with 1
 abbrev pub bit : ℕ → Bool

@@ -1,6 +1,7 @@
 // Two nodes of a store: taken apart at the earlier of their events; what needs no recursion; the node over two branches, kept as the answer.
 use store::Built;
 use store::Known;
+use store::Parts;
 ghost use mathlib.Core.Path.{_≡_};
 ghost use Prim.Native.Nat.{_+_, _/_, _<_, _≤_, min, max};
 ghost use lib.ListN.{length};
@@ -9,15 +10,6 @@ ghost use Rattle.tables.specs.Table.{den};
 ghost use Rattle.store.specs.Store.{Store};
 ghost use Rattle.store.specs.Memo.{Places, Place};
 ghost use Rattle.pairs.specs.Pairs.{Arranged, Parted, Asked, Finishes};
-
-// Two nodes taken apart at the earlier of their events: what they become with it failed, f1 and g1, and sound, f0 and g0.
-pub struct Parts {
-    pub e: u32,
-    pub f1: u32,
-    pub g1: u32,
-    pub f0: u32,
-    pub g0: u32,
-}
 
 pub fn least(a: u32, b: u32) -> u32
     ensures { λ r. ⌜ r ≡ min a b ⌝ }

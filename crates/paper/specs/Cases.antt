@@ -84,17 +84,17 @@ define t (agreeing i j) = said (agree (events t) (gateOf t i) (gateOf t j))
 
 -- ---- what the paper says
 
-tenth : ℕ
+unfoldable pub tenth : ℕ
 tenth = 100_000_000
 
-three : List Gate → Tree
+unfoldable pub three : List Gate → Tree
 three gs = record { chances = tenth ∷ tenth ∷ tenth ∷ []; gates = gs }
 
 two : List Gate → Tree
 two gs = record { chances = tenth ∷ tenth ∷ []; gates = gs }
 
 -- document 000, example 1: (c1 and c2) or (c2 and c3); and example 6: (a or c) and (b or c)
-first : Tree
+unfoldable pub first : Tree
 first = three (andG (event 0 ∷ event 1 ∷ []) ∷ andG (event 1 ∷ event 2 ∷ []) ∷ orG (gate 0 ∷ gate 1 ∷ []) ∷ [])
 
 sixth : Tree
@@ -104,7 +104,7 @@ sixth = three (orG (event 0 ∷ event 2 ∷ []) ∷ orG (event 1 ∷ event 2 ∷
 absorbed : Tree
 absorbed = two (andG (event 0 ∷ event 1 ∷ []) ∷ orG (event 0 ∷ gate 0 ∷ []) ∷ [])
 
-twoOfThree : Tree
+unfoldable pub twoOfThree : Tree
 twoOfThree = three (leastG 2 (event 0 ∷ event 1 ∷ event 2 ∷ []) ∷ [])
 
 reversed : Tree

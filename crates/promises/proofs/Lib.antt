@@ -2,9 +2,12 @@ pub mod Refusals
 pub mod Renumbering
 pub mod Coincide
 pub mod Contents
+pub mod FirstBytes
+pub mod AnyMemo
 pub mod Which
 pub mod Unseen
 pub mod Promises
+pub mod SameGates
 pub mod Telling
 pub mod Serving
 pub mod OnTables

@@ -29,7 +29,7 @@ use Rattle.trees.proofs.Lawful.{tree-events}
 use Rattle.listing.specs.Answers.{Answered, no-diagram, beyond, short, done}
 use Rattle.listing.specs.Joined.{Joined}
 use Rattle.listing.proofs.Join.{join, join-all}
-use Rattle.bracket.specs.Bracketed as bracket
+use Rattle.bracket.specs.Bracketed.{chanceIn, Enough, Chances, Bracketed}
 use Rattle.bracket.proofs.Outcome.{encloses-built}
 use Rattle.memory.specs.Memory.{Memory, capacity}
 use Rattle.memory.specs.Outcome.{Done}
@@ -42,14 +42,14 @@ use Rattle.promises.proofs.Telling.{bytes-tell}
 -- ---- the chances of a tree that was read
 
 -- none is above D
-pub own-chances : (b : Book) → Lawful limits b → (e : ℕ) → e < events (treeOf b) → bracket.chanceIn (treeOf b .chances) e ≤ billion
+pub own-chances : (b : Book) → Lawful limits b → (e : ℕ) → e < events (treeOf b) → chanceIn (treeOf b .chances) e ≤ billion
 unfolding treeOf
 own-chances b l e h = let n = tree-events b in let k : e < length (b .events) = omega arith in subst (λ x. x ≤ billion) (sym (List·getD-map (λ (x : Event). x .chance) (b .events) e noEvent)) (l .chances e k)
 
 module _ {t : Tree} {m m′ : Memory} {a : Analysis} (d : Done t m m′ a) where
   -- ---- LIST never answers 12
-  pub list-takes : {begin : Bool} {ws room room′ : List ℕ} {number count used : ℕ} {last : List ℕ} {finished : Bool}
-      → Answered (events t) (m′ .cuts) (a .«cut_nodes») (a .«cut_root») begin ws room room′ number count used last finished → number ≢ 12
+  pub list-takes : {begin : Bool} {ws room room′ : List ℕ} {number place count used : ℕ} {last : List ℕ} {finished : Bool}
+      → Answered (events t) (m′ .cuts) (a .«cut_nodes») (a .«cut_root») begin ws room room′ number place count used last finished → number ≢ 12
   list-takes (no-diagram h r) q = h (d .cut-table .lent)
   list-takes (beyond l b h r) q = let w = r .is in omega arith
   list-takes (short l w h r) q = let w = r .is in omega arith
@@ -67,31 +67,31 @@ module _ {t : Tree} {m m′ : Memory} {a : Analysis} (d : Done t m m′ a) where
       (λ S h. sets-beyond 0 (events t) (den (m′ .cuts) (a .«cut_root»)) S (root-ordered (d .cut-table .lent)) h) (sym e ∙ join-all j)
 
   -- ---- BRACKET never answers 12, and answers 0 where chances and areas are right
-  module _ {A L H L′ H′ : List ℕ} {number lo hi : ℕ} where
-    pub bracket-takes : bracket.Bracketed (events t) (m′ .nodes) (a .nodes) (a .root) A number lo hi L H L′ H′ → number ≢ 12
-    bracket-takes (bracket.no-diagram h r) q = h (d .node-table .lent)
-    bracket-takes (bracket.too-short l h r) q = let w = r .number-is in omega arith
-    bracket-takes (bracket.no-chance l e h r) q = let w = r .number-is in omega arith
-    bracket-takes (bracket.done l e p r) q = let w = r .number-is in omega arith
+  module _ {A L H L′ H′ : List ℕ} {number place lo hi : ℕ} where
+    pub bracket-takes : Bracketed (events t) (m′ .nodes) (a .nodes) (a .root) A number place lo hi L H L′ H′ → number ≢ 12
+    bracket-takes (Bracketed.no-diagram h r) q = h (d .node-table .lent)
+    bracket-takes (Bracketed.too-short l h r) q = let w = r .number-is in omega arith
+    bracket-takes (Bracketed.no-chance l e h r) q = let w = r .number-is in omega arith
+    bracket-takes (Bracketed.done l e p r) q = let w = r .number-is in omega arith
 
-    pub bracket-answers : bracket.Bracketed (events t) (m′ .nodes) (a .nodes) (a .root) A number lo hi L H L′ H′
-        → bracket.Enough (events t) (m′ .nodes) A L H → bracket.Chances (events t) A → number ≡ 0
-    bracket-answers (bracket.no-diagram h r) e c = absurd (h (d .node-table .lent))
-    bracket-answers (bracket.too-short l h r) e c = absurd (h e)
-    bracket-answers (bracket.no-chance l k h r) e c = absurd (h c)
-    bracket-answers (bracket.done l k p r) e c = r .number-is
+    pub bracket-answers : Bracketed (events t) (m′ .nodes) (a .nodes) (a .root) A number place lo hi L H L′ H′
+        → Enough (events t) (m′ .nodes) A L H → Chances (events t) A → number ≡ 0
+    bracket-answers (Bracketed.no-diagram h r) e c = absurd (h (d .node-table .lent))
+    bracket-answers (Bracketed.too-short l h r) e c = absurd (h e)
+    bracket-answers (Bracketed.no-chance l k h r) e c = absurd (h c)
+    bracket-answers (Bracketed.done l k p r) e c = r .number-is
 
-  module _ (some : 1 ≤ length (t .gates)) {A L H L′ H′ : List ℕ} {number lo hi : ℕ} where
+  module _ (some : 1 ≤ length (t .gates)) {A L H L′ H′ : List ℕ} {number place lo hi : ℕ} where
     -- what it answers encloses the exact chance of the root's function
-    pub bracket-encloses : bracket.Bracketed (events t) (m′ .nodes) (a .nodes) (a .root) A number lo hi L H L′ H′ → number ≡ 0
-        → Brackets billion (events t - 1) (total billion (bracket.chanceIn A) (events t) 0 (rootFun (t .gates))) (dependsOn (events t) (rootFun (t .gates))) lo hi
+    pub bracket-encloses : Bracketed (events t) (m′ .nodes) (a .nodes) (a .root) A number place lo hi L H L′ H′ → number ≡ 0
+        → Brackets billion (events t - 1) (total billion (chanceIn A) (events t) 0 (rootFun (t .gates))) (dependsOn (events t) (rootFun (t .gates))) lo hi
     bracket-encloses b q =
-        subst (λ F. Brackets billion (events t - 1) (total billion (bracket.chanceIn A) (events t) 0 F) (dependsOn (events t) F) lo hi) (root-function d some)
+        subst (λ F. Brackets billion (events t - 1) (total billion (chanceIn A) (events t) 0 F) (dependsOn (events t) F) lo hi) (root-function d some)
         (encloses-built (d .node-table .unique) b q)
 
 -- with the tree's own chances
-pub own-answers : (b : Book) → Lawful limits b → {m m′ : Memory} {a : Analysis} → Done (treeOf b) m m′ a → {A L H L′ H′ : List ℕ} {number lo hi : ℕ}
-    → bracket.Bracketed (events (treeOf b)) (m′ .nodes) (a .nodes) (a .root) A number lo hi L H L′ H′
+pub own-answers : (b : Book) → Lawful limits b → {m m′ : Memory} {a : Analysis} → Done (treeOf b) m m′ a → {A L H L′ H′ : List ℕ} {number place lo hi : ℕ}
+    → Bracketed (events (treeOf b)) (m′ .nodes) (a .nodes) (a .root) A number place lo hi L H L′ H′
     → Own (treeOf b) A → capacity (m′ .nodes) ≤ length L → capacity (m′ .nodes) ≤ length H → number ≡ 0
 own-answers b l d {A} x o p q = bracket-answers d x (record { chances = o .enough; lows = p; highs = q })
     (record { each = λ e h. subst (λ k. k ≤ billion) (sym (o .each e h)) (own-chances b l e h) })

@@ -8,8 +8,7 @@ use Prim.Native.Nat.{ℕ, _+_, _*_, _≤_}
 use native.Mathlib.Omega.{arith}
 use lib.ListN.{length}
 use Rattle.paper.specs.Lists.{In, lastOr}
-use Rattle.paper.specs.Sets.{Set, none}
-use Rattle.paper.specs.Sets as sets
+use Rattle.paper.specs.Sets.{Set, Within, none}
 use Rattle.paper.specs.Diagrams.{Diagram}
 use Rattle.paper.specs.Cuts.{setsOf}
 use Rattle.paper.specs.Order.{behind}
@@ -22,7 +21,7 @@ use Rattle.tables.specs.Table.{den}
 use Rattle.tables.specs.Lent.{Lent}
 use Rattle.tables.proofs.Lent.{root-ordered}
 use Rattle.walk.specs.After.{toList}
-use Rattle.listing.specs.Answers.{startOf, Within, Short, Answered}
+use Rattle.listing.specs.Answers.{startOf, GoodStart, Short, Answered}
 use Rattle.listing.proofs.Join.{fitting-split}
 use Rattle.promises.proofs.Telling.{set-size}
 
@@ -32,8 +31,8 @@ never-short : (n size : ℕ) (l : List Set) → 2 * n + 1 ≤ size → Short n s
 never-short n size [] h s = s
 never-short n size (S ∷ l) h s = let b = set-size n S in omega arith
 
-pub serves : {n : ℕ} {T : List ℕ} {c root : ℕ} {begin : Bool} {ws room room′ : List ℕ} {number count used : ℕ} {last : List ℕ} {finished : Bool}
-    → Answered n T c root begin ws room room′ number count used last finished → Lent true n T c root → Within n begin ws → 2 * n + 1 ≤ length room → number ≡ 0
+pub serves : {n : ℕ} {T : List ℕ} {c root : ℕ} {begin : Bool} {ws room room′ : List ℕ} {number place count used : ℕ} {last : List ℕ} {finished : Bool}
+    → Answered n T c root begin ws room room′ number place count used last finished → Lent true n T c root → GoodStart n begin ws → 2 * n + 1 ≤ length room → number ≡ 0
 serves (Answered.no-diagram h x) v ok r = absurd (h v)
 serves (Answered.beyond w e p x) v ok r = absurd (ok e p)
 serves {n} {T} {c} {root} {begin} {ws} {room} (Answered.short w k s x) v ok r = absurd (never-short n (length room) (toList n (den T root) begin ws) r s)
@@ -53,15 +52,15 @@ of-family : (n : ℕ) (d : Diagram) (begin : Bool) (ws : List ℕ) (S : Set) →
 of-family n d true ws S h = h
 of-family n d false ws S h = keep-in (behind n 0 (setOf ws)) S (setsOf d) h .0
 
-not-beyond : (n : ℕ) (S : Set) → sets.Within n S → Beyond n S → ⊥
+not-beyond : (n : ℕ) (S : Set) → Within n S → Beyond n S → ⊥
 not-beyond n S w b = false≢true (sym (w (b .event) (b .above)) ∙ b .is)
 
-start-within : (n : ℕ) (begin : Bool) (ws : List ℕ) → Within n begin ws → Beyond n (startOf begin ws) → ⊥
-start-within n true ws ok b = not-beyond n none (λ i h. refl) b
-start-within n false ws ok b = ok refl b
+start-good : (n : ℕ) (begin : Bool) (ws : List ℕ) → GoodStart n begin ws → Beyond n (startOf begin ws) → ⊥
+start-good n true ws ok b = not-beyond n none (λ i h. refl) b
+start-good n false ws ok b = ok refl b
 
-pub hands-on : {n : ℕ} {T : List ℕ} {c root : ℕ} {begin : Bool} {ws room room′ : List ℕ} {count used : ℕ} {last : List ℕ} {finished : Bool}
-    → Answered n T c root begin ws room room′ 0 count used last finished → Within n false last
+pub hands-on : {n : ℕ} {T : List ℕ} {c root : ℕ} {begin : Bool} {ws room room′ : List ℕ} {place count used : ℕ} {last : List ℕ} {finished : Bool}
+    → Answered n T c root begin ws room room′ 0 place count used last finished → GoodStart n false last
 hands-on (Answered.no-diagram h x) q b = absurd (let e = x .is in omega arith)
 hands-on (Answered.beyond w e p x) q b = absurd (let e = x .is in omega arith)
 hands-on (Answered.short w k s x) q b = absurd (let e = x .is in omega arith)
@@ -71,7 +70,7 @@ hands-on {n} {T} {c} {root} {begin} {ws} {room} (Answered.done v ok s x) q b = g
     w = fitting n (length room) (toList n (den T root) begin ws)
 
     go : (lastOr (startOf begin ws) w ≡ startOf begin ws) ⊎ In (lastOr (startOf begin ws) w) w → Beyond n (lastOr (startOf begin ws) w) → ⊥
-    go (inl q) b = start-within n begin ws ok (subst (Beyond n) q b)
+    go (inl q) b = start-good n begin ws ok (subst (Beyond n) q b)
     go (inr h) b =
         let (q, p) = fitting-split n (length room) (toList n (den T root) begin ws) in
         let k = subst (In (lastOr (startOf begin ws) w)) (sym p) (in-left (lastOr (startOf begin ws) w) w q h) in

@@ -20,8 +20,7 @@ use Rattle.paper.specs.Listing.{setsBytes}
 use Rattle.paper.specs.Chance.{total, Brackets}
 use Rattle.paper.specs.Answers.{cutNodesOf}
 use Rattle.tables.specs.Table.{den}
-use Rattle.listing.specs.Answers.{Answered}
-use Rattle.listing.specs.Answers.{Within as Starts}
+use Rattle.listing.specs.Answers.{GoodStart, Answered}
 use Rattle.listing.specs.Joined.{Joined}
 use Rattle.bracket.specs.Bracketed.{chanceIn, Bracketed}
 use Rattle.memory.specs.Memory.{Memory, capacity}
@@ -59,14 +58,14 @@ pub record Faithful (t : Tree) (m : Memory) (a : Analysis) : Type 0 where
 -- `list` takes the cut table; in rooms with enough bytes for any set it answers 0, and each last set is a start for the next call. The calls, in
 -- rooms of any sizes, write the bytes of the cuts, and these are the bytes of no other sets.
 pub record Listed (t : Tree) (m : Memory) (a : Analysis) : Type 0 where
-  pub takes : {begin : Bool} {ws room room′ : List ℕ} {number count used : ℕ} {last : List ℕ} {finished : Bool}
-      → Answered (events t) (m .cuts) (a .«cut_nodes») (a .«cut_root») begin ws room room′ number count used last finished → number ≢ 12
-  pub answers : {begin : Bool} {ws room room′ : List ℕ} {number count used : ℕ} {last : List ℕ} {finished : Bool}
-      → Answered (events t) (m .cuts) (a .«cut_nodes») (a .«cut_root») begin ws room room′ number count used last finished
-      → Starts (events t) begin ws → 2 * events t + 1 ≤ length room → number ≡ 0
-  pub goes-on : {begin : Bool} {ws room room′ : List ℕ} {count used : ℕ} {last : List ℕ} {finished : Bool}
-      → Answered (events t) (m .cuts) (a .«cut_nodes») (a .«cut_root») begin ws room room′ 0 count used last finished
-      → Starts (events t) false last × (finished ≡ false → 0 < count)
+  pub takes : {begin : Bool} {ws room room′ : List ℕ} {number place count used : ℕ} {last : List ℕ} {finished : Bool}
+      → Answered (events t) (m .cuts) (a .«cut_nodes») (a .«cut_root») begin ws room room′ number place count used last finished → number ≢ 12
+  pub answers : {begin : Bool} {ws room room′ : List ℕ} {number place count used : ℕ} {last : List ℕ} {finished : Bool}
+      → Answered (events t) (m .cuts) (a .«cut_nodes») (a .«cut_root») begin ws room room′ number place count used last finished
+      → GoodStart (events t) begin ws → 2 * events t + 1 ≤ length room → number ≡ 0
+  pub goes-on : {begin : Bool} {ws room room′ : List ℕ} {place count used : ℕ} {last : List ℕ} {finished : Bool}
+      → Answered (events t) (m .cuts) (a .«cut_nodes») (a .«cut_root») begin ws room room′ 0 place count used last finished
+      → GoodStart (events t) false last × (finished ≡ false → 0 < count)
   pub whole : {ws bytes : List ℕ} → Joined (events t) (m .cuts) (a .«cut_nodes») (a .«cut_root») true ws bytes → bytes ≡ setsBytes (events t) (cutsIn m a)
   pub no-other : {ws bytes : List ℕ} → Joined (events t) (m .cuts) (a .«cut_nodes») (a .«cut_root») true ws bytes
       → (l : List Set) → ((S : Set) → In S l → Within (events t) S) → bytes ≡ setsBytes (events t) l → l ≡ cutsIn m a
@@ -79,10 +78,10 @@ pub record Own (t : Tree) (A : List ℕ) : Type 0 where
 -- 3. NEAR: `bracket` takes the table; what it answers with 0 encloses the exact chance of the root, each end less than L away, where L is the
 -- number of events that the root depends on; and with the tree's own chances and areas that are long enough it answers 0
 pub record Near (t : Tree) (m : Memory) (a : Analysis) : Type 0 where
-  pub takes : {A L H L′ H′ : List ℕ} {number lo hi : ℕ} → Bracketed (events t) (m .nodes) (a .nodes) (a .root) A number lo hi L H L′ H′ → number ≢ 12
-  pub encloses : {A L H L′ H′ : List ℕ} {number lo hi : ℕ} → Bracketed (events t) (m .nodes) (a .nodes) (a .root) A number lo hi L H L′ H′ → number ≡ 0
+  pub takes : {A L H L′ H′ : List ℕ} {number place lo hi : ℕ} → Bracketed (events t) (m .nodes) (a .nodes) (a .root) A number place lo hi L H L′ H′ → number ≢ 12
+  pub encloses : {A L H L′ H′ : List ℕ} {number place lo hi : ℕ} → Bracketed (events t) (m .nodes) (a .nodes) (a .root) A number place lo hi L H L′ H′ → number ≡ 0
       → Brackets billion (events t - 1) (total billion (chanceIn A) (events t) 0 (rootFun (t .gates))) (dependsOn (events t) (rootFun (t .gates))) lo hi
-  pub answers : {A L H L′ H′ : List ℕ} {number lo hi : ℕ} → Bracketed (events t) (m .nodes) (a .nodes) (a .root) A number lo hi L H L′ H′
+  pub answers : {A L H L′ H′ : List ℕ} {number place lo hi : ℕ} → Bracketed (events t) (m .nodes) (a .nodes) (a .root) A number place lo hi L H L′ H′
       → Own t A → capacity (m .nodes) ≤ length L → capacity (m .nodes) ≤ length H → number ≡ 0
 
 pub record Delivers (t : Tree) (m : Memory) (a : Analysis) : Type 0 where

@@ -2,3 +2,4 @@
 pub mod Reasons
 pub mod Coincide
 pub mod Delivers
+pub mod Memo

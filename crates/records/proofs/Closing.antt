@@ -52,9 +52,6 @@ module _ {b : Book} {sizes places inputs : List ℕ} (h : Fronts b sizes places 
   inputs-are : take (s .inputs) inputs ≡ b .inputs
   inputs-are = rw inputs-count (h .inputs)
 
-  pub gates-few : s .gates ≤ limits .gates
-  gates-few = omega (arith, h .fewGates, gates-are)
-
   pub gates-fit : s .gates ≤ length sizes
   gates-fit = omega (arith, sym (length-take (s .gates) sizes) ∙ ap length sizes-are, gates-are)
 

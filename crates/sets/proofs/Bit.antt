@@ -8,7 +8,7 @@ use native.Mathlib.Numerals.{add-one, one-add}
 use native.Mathlib.Omega.{arith}
 use lib.Arith.{digits-mod}
 use lib.Pow.{shr-shr, shr-lt}
-use lib.Bits.{bitXor, bitOr, bitAnd, differ, xor-shr, xor-step, or-shr, or-step, and-shr, and-step, xor-add-and, and-le-l, and-le-r}
+use lib.Bits.{bitXor, bitOr, bitAnd, differ, xor-shr, xor-step, or-shr, or-step, and-shr, and-step}
 use lib.Count.{trailingZeros, under}
 use Rattle.sets.specs.Words.{bit, Trail}
 
@@ -94,10 +94,6 @@ and-low a b = omega (arith, and-step a b)
 pub bit-and : (a b j : ℕ) → bit (bitAnd a b) j ≡ min (bit a j) (bit b j)
 unfolding bit
 bit-and a b j = ap (λ (n : ℕ). n % 2) (and-shr a b j) ∙ and-low (a / 2 ^ j) (b / 2 ^ j)
-
--- two numbers whose `^` is 0 are equal
-pub xor-same : (a b : ℕ) → bitXor a b ≡ 0 → a ≡ b
-xor-same a b e = omega (arith, xor-add-and a b, and-le-l a b, and-le-r a b)
 
 pub bit-lt : (w j : ℕ) → bit w j < 2
 unfolding bit

@@ -1,4 +1,4 @@
--- Sets of any number of words: the lowest member, the lowest difference, and a set with an event put in.
+-- Sets of any number of words: the lowest member, a set with an event put in, and one array of words for one set.
 -- Assumes nothing.
 use mathlib.Core.Path.{_≡_, refl, sym, ap, ap₂, _∙_, subst, fun-ext}
 use mathlib.Core.Bool.{true, false}
@@ -6,16 +6,18 @@ use mathlib.Core.List.{List}
 use Prim.Native.Nat.{ℕ, zero, suc, _+_, _-_, _*_, _/_, _%_, _^_, _≤_, _<_, max}
 use native.Mathlib.Nat.{div-eq-of-lt, lt-of-lt-of-le, one-mul, mod-eq-of-lt}
 use native.Mathlib.Decide.{decLt, ℕ-discrete}
+use native.Mathlib.Numerals.{add-one}
 use native.Mathlib.Omega.{arith}
 use lib.Dec.{eqb}
 use lib.ListN.{length, getD, set, replicate, List·getD-eq-default}
-use lib.Seq.{getD-set-same, getD-set-other}
-use lib.Pow.{pow-mono, pow-lt}
+use lib.Seq.{ext-getD, getD-set-same, getD-set-other}
+use lib.Arith.{lt-one}
+use lib.Pow.{pow-mono, pow-lt, shr-lt}
 use lib.Bits.{bitXor, bitOr, differ}
 use borrow.Author.Tests.{eq-eqb, ne-eqb}
 use Rattle.paper.specs.Sets.{Set, none, put}
-use Rattle.sets.specs.Words.{bit, setOf, room, Trail, Lowest, Differ}
-use Rattle.sets.proofs.Bit.{bit-none, bit-shift, bit-own, bit-other, bit-xor, bit-or, bit-lt, xor-same}
+use Rattle.sets.specs.Words.{bit, setOf, room, Array, Trail, Lowest}
+use Rattle.sets.proofs.Bit.{bit-none, bit-shift, bit-own, bit-other, bit-xor, bit-or, bit-lt, bit-suc, bit-zero}
 
 -- event j of word k
 pub set-in : (ws : List ℕ) (k j : ℕ) → j < 64 → setOf ws (k * 64 + j) ≡ eqb (bit (getD ws k 0) j) 1
@@ -44,9 +46,6 @@ blocks-more P k lo hi j h = blocks P k 64 lo hi j (omega arith)
 pub beyond-room : (ws : List ℕ) (i : ℕ) → room ws ≤ i → setOf ws i ≡ false
 unfolding setOf
 beyond-room ws i h = ap (λ (b : ℕ). eqb b 1) (ap (λ (w : ℕ). bit w (i % 64)) (List·getD-eq-default ws 0 (omega arith)) ∙ bit-none (i % 64))
-
-pub agree-beyond : (a b : List ℕ) → length a ≡ length b → (i : ℕ) → room a ≤ i → setOf a i ≡ setOf b i
-agree-beyond a b e i h = beyond-room a i h ∙ sym (beyond-room b i (omega arith))
 
 -- ---- the lowest member
 
@@ -125,16 +124,7 @@ lowest-on {n = n} {i} {r} lo h = go (decLt r n)
     go (yes l) = let a = lo .above l in omega arith
     go (no l) = omega arith
 
--- ---- the lowest difference
-
-differ-eq : (x y : ℕ) → differ x y ≡ 0 → x ≡ y
-differ-eq zero y e = sym e
-differ-eq (suc x) zero e = e
-differ-eq (suc x) (suc y) e = ap suc (differ-eq x y e)
-
-differ-self : (x : ℕ) → differ x x ≡ 0
-differ-self zero = refl
-differ-self (suc x) = differ-self x
+-- ---- a set tells its bits
 
 -- a bit is told by whether it is 1
 same-bit : (x y : ℕ) → x < 2 → y < 2 → eqb x 1 ≡ eqb y 1 → x ≡ y
@@ -148,30 +138,6 @@ same-bit (suc zero) (suc (suc y)) h k e = absurd (omega arith)
 
 pub bits-same : (a b : List ℕ) (k j : ℕ) → j < 64 → setOf a (k * 64 + j) ≡ setOf b (k * 64 + j) → bit (getD a k 0) j ≡ bit (getD b k 0) j
 bits-same a b k j h e = same-bit (bit (getD a k 0) j) (bit (getD b k 0) j) (bit-lt _ j) (bit-lt _ j) (sym (set-in a k j h) ∙ e ∙ set-in b k j h)
-
-pub sets-same : (a b : List ℕ) (k j : ℕ) → j < 64 → bit (getD a k 0) j ≡ bit (getD b k 0) j → setOf a (k * 64 + j) ≡ setOf b (k * 64 + j)
-sets-same a b k j h e = set-bit a k j (bit (getD b k 0) j) h e ∙ sym (set-in b k j h)
-
--- the lowest set bit of the `^` of two words, where the sets agree before the word
-pub found-apart : (a b : List ℕ) (k t : ℕ) → k < length a → ((j : ℕ) → j < k * 64 → setOf a j ≡ setOf b j) → Trail (bitXor (getD a k 0) (getD b k 0)) 64 t → Differ (setOf a) (setOf b) (room a) (k * 64 + t)
-found-apart a b k t l agree r =
-    let x = getD a k 0 in
-    let y = getD b k 0 in
-    let h = r .below in
-    record {
-      within = omega arith;
-      same = blocks (λ (n : ℕ). setOf a n ≡ setOf b n) k t agree
-          (λ s g. sets-same a b k s (omega arith) (differ-eq (bit x s) (bit y s) (sym (bit-xor x y s) ∙ r .clear s g)));
-      differs = λ _ e.
-          let f : bit x t ≡ bit y t = bits-same a b k t h e in
-          let z : _≡_ {A = ℕ} 0 1 = sym (differ-self (bit x t)) ∙ ap (differ (bit x t)) f ∙ sym (bit-xor x y t) ∙ r .set in
-          omega arith;
-    }
-
--- they agree to the end of a word whose `^` is 0
-pub none-apart : (a b : List ℕ) (k : ℕ) → bitXor (getD a k 0) (getD b k 0) ≡ 0 → ((j : ℕ) → j < k * 64 → setOf a j ≡ setOf b j) → (j : ℕ) → j < (k + 1) * 64 → setOf a j ≡ setOf b j
-none-apart a b k z agree =
-    blocks-more (λ (j : ℕ). setOf a j ≡ setOf b j) k agree (λ r h. sets-same a b k r h (ap (λ (n : ℕ). bit n r) (xor-same (getD a k 0) (getD b k 0) z)))
 
 -- ---- a set with an event put in or taken out
 
@@ -225,6 +191,10 @@ differ-none zero y e = e
 differ-none (suc x) zero e = refl
 differ-none (suc x) (suc y) e = absurd (omega arith)
 
+differ-self : (x : ℕ) → differ x x ≡ 0
+differ-self zero = refl
+differ-self (suc x) = differ-self x
+
 clear-own : (w t : ℕ) → t < 64 → bit w t ≡ 1 → bit (bitXor w ((1 * 2 ^ t) % 2 ^ 64)) t ≡ 0
 clear-own w t f e = bit-xor w ((1 * 2 ^ t) % 2 ^ 64) t ∙ ap₂ differ e (bit-one t f) ∙ differ-self 1
 
@@ -250,3 +220,19 @@ getD-zeros (suc n) (suc k) = getD-zeros n k
 pub empty-none : (n : ℕ) → setOf (replicate n 0) ≡ none
 unfolding setOf
 empty-none n = fun-ext (λ i. ap (λ (b : ℕ). eqb b 1) (ap (λ (w : ℕ). bit w (i % 64)) (getD-zeros n (i / 64)) ∙ bit-none (i % 64)))
+
+-- ---- words that denote one set are the same
+
+bits-tell : (d x y : ℕ) → x < 2 ^ d → y < 2 ^ d → ((j : ℕ) → j < d → bit x j ≡ bit y j) → x ≡ y
+bits-tell zero x y h k e = lt-one h ∙ sym (lt-one k)
+bits-tell (suc d) x y h k e =
+    let low : x % 2 ≡ y % 2 = sym (bit-zero x) ∙ e 0 (omega arith) ∙ bit-zero y in
+    let high : x / 2 ≡ y / 2 = bits-tell d (x / 2) (y / 2) (half h) (half k) (λ j l. sym (bit-suc x j) ∙ e (suc j) (omega arith) ∙ bit-suc y j) in
+    omega arith
+  where
+    half : {w : ℕ} → w < 2 ^ suc d → w / 2 < 2 ^ d
+    half {w} q = shr-lt d 1 (subst (λ (n : ℕ). w < 2 ^ n) (sym (add-one d)) q)
+
+pub words-same : {k : ℕ} {a b : List ℕ} → Array k a → Array k b → setOf a ≡ setOf b → a ≡ b
+words-same {a = a} {b = b} p q e = ext-getD 0 a b (p .long ∙ sym (q .long))
+    (λ i h. bits-tell 64 (getD a i 0) (getD b i 0) (p .fit i) (q .fit i) (λ j l. bits-same a b i j l (ap (λ S. S (i * 64 + j)) e)))

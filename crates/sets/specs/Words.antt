@@ -1,7 +1,6 @@
 -- A set of events in words of 64 bits. Nothing but `words` depends on the number of words.
 -- Assumes nothing.
 use mathlib.Core.Path.{_≡_}
-use mathlib.Core.Logic.{_≢_}
 use mathlib.Core.Bool.{true, false}
 use mathlib.Core.List.{List}
 use Prim.Native.Nat.{ℕ, _*_, _/_, _%_, _^_, _≤_, _<_}
@@ -51,9 +50,3 @@ pub record Lowest (S : Set) (n i r : ℕ) : Type 0 where
   pub above : r < n → i ≤ r
   pub is : r < n → S r ≡ true
   pub clear : (j : ℕ) → i ≤ j → j < r → S j ≡ false
-
--- r is the lowest event in which S and T differ, or n where they agree below n
-pub record Differ (S T : Set) (n r : ℕ) : Type 0 where
-  pub within : r ≤ n
-  pub same : (j : ℕ) → j < r → S j ≡ T j
-  pub differs : r < n → S r ≢ T r

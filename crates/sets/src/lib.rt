@@ -1,14 +1,12 @@
 // A set of events in words of 64 bits: bit i % 64 of word i / 64 is set exactly if event i is a member.
 ghost use mathlib.Core.Path.{_≡_};
-ghost use mathlib.Core.Logic.{_↔_};
 ghost use mathlib.Core.Bool.{true, false};
 ghost use mathlib.Core.List.{_++_};
 ghost use Prim.Native.Nat.{_+_, _*_, _≤_, _<_};
 ghost use lib.ListN.{length, replicate, take, drop};
 ghost use Rattle.paper.specs.Sets.{put, members};
-ghost use Rattle.paper.specs.Order.{Before};
 ghost use Rattle.paper.specs.Listing.{memberBytes, setBytes};
-ghost use Rattle.sets.specs.Words.{words, setOf, room, Few, sizeOf, Trail, Lowest, Differ};
+ghost use Rattle.sets.specs.Words.{words, setOf, room, Few, sizeOf, Trail, Lowest};
 ghost use Rattle.sets.specs.Bytes.{inWord, InByte, OneByte, Laid};
 
 // A set that can hold every event of a tree has so many words, and holds so many events.
@@ -29,18 +27,6 @@ pub fn empty() -> [u64; WORDS]
     ensures { λ r. ⌜ r ≡ replicate words 0 ⌝ }
 {
     [0u64; WORDS]
-}
-
-// Whether event `i` is a member.
-pub fn has(ws: &[u64], i: usize) -> bool
-    ensures { λ r. ⌜ r ≡ setOf (now (ws .entry)) i ⌝ }
-{
-    let k = i / 64;
-    if k < ws.len() {
-        (ws[k] >> (i % 64)) % 2 == 1
-    } else {
-        false
-    }
 }
 
 // Puts event `i` in.
@@ -162,29 +148,4 @@ pub fn write_cut(ws: &[u64], left: &mut [u8]) -> usize
     write_members(ws, left, size - 1);
     left[size - 1] = 0x22;
     size
-}
-
-// The lowest event in which two sets differ, or the room where they do not.
-pub fn apart(a: &[u64], b: &[u64]) -> usize
-    requires { ⌜ Few (now a) × (length (now a) ≡ length (now b)) ⌝ }
-    ensures { λ r. ⌜ Differ (setOf (now (a .entry))) (setOf (now (b .entry))) (room (now (a .entry))) r ⌝ }
-{
-    let mut k = 0;
-    while k < a.len() {
-        let v = a[k] ^ b[k];
-        if v != 0 {
-            return k * 64 + low_bit(v);
-        }
-        k += 1;
-    }
-    k * 64
-}
-
-// Whether `a` comes before `b`: they differ, and `a` holds the lowest event in which they do.
-pub fn before(a: &[u64], b: &[u64]) -> bool
-    requires { ⌜ Few (now a) × (length (now a) ≡ length (now b)) ⌝ }
-    ensures { λ r. ⌜ (r ≡ true) ↔ Before (setOf (now (a .entry))) (setOf (now (b .entry))) ⌝ }
-{
-    let i = apart(a, b);
-    if i < a.len() * 64 { has(a, i) } else { false }
 }

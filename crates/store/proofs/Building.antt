@@ -2,7 +2,7 @@
 -- Assumes nothing.
 use mathlib.Core.Path.{_≡_, refl, sym, ap, _∙_, subst}
 use mathlib.Core.Logic.{_≢_, _⊎_, inl, inr}
-use mathlib.Core.Bool.{false, false≢true}
+use mathlib.Core.Bool.{false≢true}
 use mathlib.Core.List.{List}
 use Prim.Native.Nat.{ℕ, zero, suc, _+_, _-_, _*_, _<_, _≤_}
 use native.Mathlib.Omega.{arith}
@@ -16,11 +16,11 @@ use Rattle.algebra.proofs.Subs.{subs-self, subs-trans}
 use Rattle.algebra.proofs.Without.{mkz-none, mkz-node}
 use Rattle.tables.specs.Table.{failedOf, soundOf, den}
 use Rattle.tables.proofs.Den.{den-0, den-1, den-node}
+use Rattle.tables.proofs.Once.{den-inj}
 use Rattle.store.specs.Store.{First, Store, Put, Sought}
 use Rattle.store.specs.Building.{Is, Part, Found, Step, Makes, Lacks, Stops, Builds, Only, Tidy}
 use Rattle.store.specs.declared.Built.{Built}
-use Rattle.store.specs.declared.Built.the-variants.{Done, Short}
-use Rattle.store.proofs.Denotes.{below-or-not, grown-refl, grown-trans, den-grown, found-grown, den-no-node, den-inj}
+use Rattle.store.proofs.Denotes.{below-or-not, grown-refl, grown-trans, den-grown, found-grown, den-no-node}
 use Rattle.store.proofs.Adding.{put-grown, store-more, den-more}
 
 -- ---- nothing is added
@@ -65,10 +65,6 @@ module _ {W : Diagram → Type 0} {T : List ℕ} {c : ℕ} {T₁ H₁ X₁ : Lis
 
     pub stops-seq : Stops W T₁ c₁ T₂ H₂ X₂ c₂ → Stops W T c T₂ H₂ X₂ c₂
     stops-seq b = record { step = step-seq (b .step); lacks = b .lacks }
-
-  pub builds-seq : (D : Diagram) (T₂ H₂ X₂ : List ℕ) (r : Built) → Builds W T₁ c₁ D T₂ H₂ X₂ r → Builds W T c D T₂ H₂ X₂ r
-  builds-seq D T₂ H₂ X₂ (Done r c₂) b = makes-seq b
-  builds-seq D T₂ H₂ X₂ (Short c₂) b = stops-seq b
 
 -- the number still denotes what it did
 pub still : {Y W : Diagram → Type 0} {T : List ℕ} {c : ℕ} {D : Diagram} {T₁ H₁ X₁ : List ℕ} {c₁ r : ℕ} {T₂ H₂ X₂ : List ℕ} {c₂ : ℕ}
@@ -144,8 +140,8 @@ module _ {T H X : List ℕ} {c e f s : ℕ} (t : Store T H X c) where
             let v = t .lower .sound (i - 2) (omega arith) in
             q .miss r2 (i - 2) (omega arith) (record {
               event = x;
-              failed = den-inj t (failedOf T i) f (omega arith) lf y;
-              sound = den-inj t (soundOf T i) s (omega arith) ls z;
+              failed = den-inj (t .lower) (t .unique) (omega arith) lf y;
+              sound = den-inj (t .lower) (t .unique) (omega arith) ls z;
             })
 
     -- and there is no room
@@ -180,29 +176,7 @@ module _ {T H X : List ℕ} {c : ℕ} (t : Store T H X c) (e : ℕ) {f s : ℕ} 
 
   module _ (T′ H′ X′ : List ℕ) (r : Built) (b : Builds (Is (target T e f s)) T c (target T e f s) T′ H′ X′ r) where
     pub made-node : f ≢ s → Builds (Is (mkD e (den T f) (den T s))) T c (mkD e (den T f) (den T s)) T′ H′ X′ r
-    made-node n = subst (λ D. Builds (Is D) T c D T′ H′ X′ r) (sym (mk-node e (den T f) (den T s) (λ q. n (den-inj t f s lf ls q)))) b
+    made-node n = subst (λ D. Builds (Is D) T c D T′ H′ X′ r) (sym (mk-node e (den T f) (den T s) (λ q. n (den-inj (t .lower) (t .unique) lf ls q)))) b
 
     pub made-cut : f ≢ 0 → Builds (Is (mkZ e (den T f) (den T s))) T c (mkZ e (den T f) (den T s)) T′ H′ X′ r
-    made-cut n = subst (λ D. Builds (Is D) T c D T′ H′ X′ r) (sym (mkz-node e (den T f) (den T s) (λ q. n (den-inj t f 0 lf (omega arith) (q ∙ sym (den-0 T)))))) b
-
--- ---- was a node added?
-
-module _ {T H X : List ℕ} {c : ℕ} {D : Diagram} {T′ H′ X′ : List ℕ} {c′ r : ℕ} (t : Store T H X c) (m : Makes (Is D) T c D T′ H′ X′ c′ r) where
-  -- no, and the number was there
-  pub not-added : c′ ≡ c → Found T c D r
-  not-added q =
-      let l : r < c + 2 = let z = m .found .within in omega arith in
-      record { within = l; is = sym (den-grown (t .lower) (m .step .grown) r l) ∙ m .found .is }
-
-  -- yes: one, and no number denoted it before
-  pub added : c′ ≢ c → (c′ ≡ c + 1) × ((i : ℕ) → i < c + 2 → den T i ≡ D → ⊥)
-  added n =
-      let g = m .step .grown .more in
-      let first : den T′ (c + 2) ≡ D = m .step .wanted (c + 2) (omega arith) (omega arith) .is in (
-        one first (below-or-not (c + 1) c′),
-        λ i l d. let z = den-inj (m .step .store) i (c + 2) (omega arith) (omega arith) (den-grown (t .lower) (m .step .grown) i l ∙ d ∙ sym first) in omega arith,
-      )
-    where
-      one : den T′ (c + 2) ≡ D → (c + 1 < c′) ⊎ (c′ ≤ c + 1) → c′ ≡ c + 1
-      one first (inr k) = let g = m .step .grown .more in omega arith
-      one first (inl k) = absurd (let z = den-inj (m .step .store) (c + 2) (c + 3) (omega arith) (omega arith) (first ∙ sym (m .step .wanted (c + 3) (omega arith) (omega arith) .is)) in omega arith)
+    made-cut n = subst (λ D. Builds (Is D) T c D T′ H′ X′ r) (sym (mkz-node e (den T f) (den T s) (λ q. n (den-inj (t .lower) (t .unique) lf (omega arith) (q ∙ sym (den-0 T)))))) b

@@ -2,24 +2,19 @@
 -- Assumes nothing.
 use mathlib.Core.Path.{_≡_, sym, ap, _∙_, subst}
 use mathlib.Core.Logic.{inl, inr}
-use mathlib.Core.List.{List, _∷_, map}
+use mathlib.Core.List.{List, _∷_}
 use Prim.Native.Nat.{ℕ, _+_, _-_, _/_, _<_}
 use native.Mathlib.Omega.{arith}
 use lib.ListN.{length}
 use Rattle.paper.specs.Lists.{In, keep, flat}
-use Rattle.paper.specs.Nodes.{nodesNeeded}
-use Rattle.paper.specs.Diagrams.{Diagram, eval, Diagram-discrete}
+use Rattle.paper.specs.Diagrams.{Diagram, Diagram-discrete}
 use Rattle.algebra.specs.Operations.{subs, isNode, nodeCount}
 use Rattle.algebra.proofs.Lists.{in-flat, flat-in, in-keep, keep-in, distinct-once, distinct-le, distinct-same}
-use Rattle.algebra.proofs.Plain.{Good, count-law}
 use Rattle.tables.specs.Table.{den}
 use Rattle.tables.proofs.Once.{dens, dens-length, in-dens, dens-in, dens-once}
 use Rattle.store.specs.Store.{Store}
-use Rattle.store.specs.Building.{Part, PartOf, Found, Lacks, Only}
+use Rattle.store.specs.Building.{PartOf, Found, Lacks, Only}
 use Rattle.store.proofs.Denotes.{found-whole}
-
-pub part-of : {ds : List Diagram} {D : Diagram} → In D ds → (E : Diagram) → Part D E → PartOf ds E
-part-of {D = D} m E p = record { whole = D; member = m; part = p }
 
 pub part-in : {ds : List Diagram} {E : Diagram} → PartOf ds E → In E (keep isNode (flat subs ds))
 part-in {ds} {E} p = in-keep isNode E (flat subs ds) (in-flat subs E (p .whole) ds (p .member) (p .part .inside)) (p .part .node)
@@ -72,12 +67,3 @@ module _ {T H X : List ℕ} {c : ℕ} (s : Store T H X c) where
 
     pub nodes-full : Lacks (PartOf ds) T c → length T / 3 < nodeCount ds
     nodes-full l = subst (λ k. k < nodeCount ds) (l .full) (nodes-lack (l .wanted) (l .absent))
-
-    -- ---- for function diagrams: the number of nodes needed, as the paper defines it
-
-    module _ (n : ℕ) (good : (d : Diagram) → In d ds → Good n 0 d) where
-      pub count-done : ((d : Diagram) → In d ds → (r : ℕ) × Found T c d r) → c ≡ nodesNeeded n (map eval ds)
-      count-done f = nodes-done f ∙ count-law n ds good
-
-      pub count-full : Lacks (PartOf ds) T c → length T / 3 < nodesNeeded n (map eval ds)
-      count-full l = subst (λ k. length T / 3 < k) (count-law n ds good) (nodes-full l)

@@ -15,8 +15,7 @@ use Rattle.tables.specs.Stored.{Lower}
 use Rattle.tables.proofs.Den.{den-0, den-1, den-node, den-kept}
 use Rattle.tables.proofs.Growth.{kept-same, kept-then}
 use Rattle.tables.proofs.Once.{den-subs}
-use Rattle.tables.proofs.Once as once
-use Rattle.store.specs.Store.{Store, Grown}
+use Rattle.store.specs.Store.{Grown}
 use Rattle.store.specs.Building.{Part, Found, Has}
 
 pub below-or-not : (i j : ℕ) → (i < j) ⊎ (j ≤ i)
@@ -54,7 +53,3 @@ module _ {T : List ℕ} {c : ℕ} (low : Lower T c) where
   found-whole {r = r} f E p =
       let (k, l, e) = den-subs low r (f .within) E (p .node) (subst (λ d. In E (subs d)) (sym (f .is)) (p .inside)) in
       record { at = k + 2; low = omega arith; high = omega arith; is = sym e }
-
--- INJECTIVITY: no two numbers denote the same
-pub den-inj : {T H X : List ℕ} {c : ℕ} → Store T H X c → (i j : ℕ) → i < c + 2 → j < c + 2 → den T i ≡ den T j → i ≡ j
-den-inj s i j a b e = once.den-inj (s .lower) (s .unique) a b e

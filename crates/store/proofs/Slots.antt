@@ -2,7 +2,7 @@
 -- Assumes nothing.
 use mathlib.Core.Path.{_≡_}
 use mathlib.Core.List.{List}
-use Prim.Native.Nat.{ℕ, zero, suc, _*_, _/_, _%_, _<_, _≤_}
+use Prim.Native.Nat.{ℕ, zero, suc, _*_, _/_, _<_, _≤_}
 use native.Mathlib.Nat.{mul-lt-mul-of-pos-right, mul-zero}
 use native.Mathlib.Omega.{arith}
 use Rattle.store.specs.Store.{mix, firstSlot, chainAt, Triple}
@@ -23,10 +23,6 @@ scaled-below y (suc m) slots l q p = let z = scaled y (suc m) l (omega arith) in
 pub mix-below : (e f s : ℕ) → mix e f s < 4294967296
 unfolding mix
 mix-below e f s = omega arith
-
-pub first-below : (e f s slots : ℕ) → 1 ≤ slots → firstSlot e f s slots < slots
-unfolding firstSlot
-first-below e f s slots l = scaled-below (mix e f s) (slots % 4294967296) slots (mix-below e f s) (omega arith) l
 
 -- equal triples are sought from the same slot
 pub same-chain : {T : List ℕ} {k e f s : ℕ} → Triple T k e f s → (slots : ℕ) → chainAt T slots k ≡ firstSlot e f s slots

@@ -23,6 +23,15 @@ pub enum Known {
     Unknown(usize),
 }
 
+// Two numbers taken apart at the earlier of their events: what they become with it failed, f1 and g1, and sound, f0 and g0.
+pub struct Parts {
+    pub e: u32,
+    pub f1: u32,
+    pub g1: u32,
+    pub f0: u32,
+    pub g0: u32,
+}
+
 // Three numbers mixed to 32 bits.
 fn mixed(e: u32, failed: u32, sound: u32) -> u64
     ensures { λ r. ⌜ (r ≡ mix e failed sound) × (r < 4294967296) ⌝ }

@@ -32,10 +32,3 @@ says-ne a b {P} f g = go (eqb a b) refl
     go : (t : Bool) → eqb a b ≡ t → Says (not t) P
     go true e = λ p. g p (eqb-true a b e)
     go false e = f (eqb-false a b e)
-
--- TWO OUTCOMES COINCIDE: a statement has one answer
-pub says-once : (a b : Bool) (P : Type 0) → Says a P → Says b P → a ≡ b
-says-once true true P h k = refl
-says-once true false P h k = absurd (k h)
-says-once false true P h k = absurd (h k)
-says-once false false P h k = refl

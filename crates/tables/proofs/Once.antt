@@ -7,14 +7,13 @@ use mathlib.Core.List.{List, map}
 use Prim.Native.Nat.{ℕ, zero, suc, _+_, _-_, _≤_, _<_}
 use native.Mathlib.Omega.{arith}
 use lib.ListN.{length}
-use Rattle.paper.specs.Lists.{In, Once, upTo, keep, flat}
+use Rattle.paper.specs.Lists.{In, Once, upTo}
 use Rattle.paper.specs.Diagrams.{Diagram, leaf, node, eval, Reduced}
 use Rattle.paper.specs.Sets.{none}
-use Rattle.paper.specs.Nodes.{nodesNeeded}
 use Rattle.algebra.specs.Operations.{subs, isNode}
 use Rattle.algebra.proofs.Base.{Three, below, beyond, equal, three, same-node}
-use Rattle.algebra.proofs.Lists.{in-append, flat-in, keep-in}
-use Rattle.algebra.proofs.Plain.{Good, stored-le, stored-all}
+use Rattle.algebra.proofs.Lists.{in-append}
+use Rattle.algebra.proofs.Plain.{Good}
 use Rattle.tables.specs.Table.{failedAt, soundAt, eventOf, failedOf, soundOf, den}
 use Rattle.tables.specs.Stored.{Lower, Unique}
 use Rattle.tables.specs.Lent.{Lent}
@@ -143,25 +142,3 @@ module _ {T : List ℕ} {c : ℕ} (low : Lower T c) (unique : Unique T c) where
         let bad : ⊥ = omega arith in bad),
     dens-once k (suc m) (omega arith),
   )
-
-  -- THE TABLE AND THE COUNT: ds are the diagrams of the steps
-  module _ (n : ℕ) (ds : List Diagram) (good : (d : Diagram) → In d ds → Good n 0 d)
-      (needed : (k : ℕ) → k < c → In (den T (k + 2)) (keep isNode (flat subs ds))) where
-    belongs : (x : Diagram) → In x (dens T c) → In x (keep isNode (flat subs ds))
-    belongs x h = let (j, a, b, e) = dens-in T c 0 x h in subst (λ y. In y (keep isNode (flat subs ds))) (sym e) (needed j (omega arith))
-
-    -- nodes that belong to steps are never more than needed
-    pub table-le : c ≤ nodesNeeded n (map eval ds)
-    table-le = subst (λ k. k ≤ nodesNeeded n (map eval ds)) (dens-length T c 0) (stored-le n (dens T c) ds (dens-once c 0 (omega arith)) good belongs)
-
-    -- and when every step's diagram is in the table, they are as many
-    pub table-all : ((d : Diagram) → In d ds → (i : ℕ) × (i < c + 2) × (d ≡ den T i)) → c ≡ nodesNeeded n (map eval ds)
-    table-all f = sym (dens-length T c 0) ∙ stored-all n (dens T c) ds (dens-once c 0 (omega arith)) good belongs back
-      where
-        back : (x : Diagram) → In x (keep isNode (flat subs ds)) → In x (dens T c)
-        back x h =
-            let (a, q) = keep-in isNode x (flat subs ds) h in
-            let (d, k, l) = flat-in subs x ds a in
-            let (i, b, e) = f d k in
-            let (j, jc, w) = den-subs low i b x q (subst (λ y. In x (subs y)) e l) in
-            subst (λ y. In y (dens T c)) (sym w) (in-dens T c 0 j (omega arith) (omega arith))

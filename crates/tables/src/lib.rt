@@ -8,7 +8,8 @@ ghost use Rattle.tables.specs.Table.{eventAt, failedAt, soundAt, eventOf
 ghost use Rattle.tables.specs.Flags.{Says};
 ghost use Rattle.tables.specs.Lent.{Above, Node, Kind, Lent};
 
-fn wide(x: u32) -> usize
+// A number of a table, as an index.
+pub fn wide(x: u32) -> usize
     ensures { λ r. ⌜ r ≡ x ⌝ }
 {
     x as usize

@@ -7,7 +7,7 @@ use Prim.Native.Nat.{ℕ, zero, suc, _+_, _-_, _*_, _≤_, _<_}
 use native.Mathlib.Omega.{arith}
 use native.Mathlib.Nat.{zero-add}
 use lib.ListN.{length, getD, take, drop, length-take, length-map}
-use lib.Seq.{getD-drop, getD-take, drop-drop, take-all}
+use lib.Seq.{getD-drop, getD-take, take-all}
 use lib.Dec.{ltb, eqb}
 use borrow.Author.Tests.{ltb-true, ltb-false, eqb-false}
 use Rattle.paper.specs.Limits.{limits}
@@ -153,18 +153,3 @@ gates-count kinds leasts g (n ∷ sizes) inputs = ap suc (gates-count kinds leas
 pub tree-gates : (b : Book) → length (treeOf b .gates) ≡ length (b .sizes)
 unfolding treeOf
 tree-gates b = gates-count (b .kinds) (b .leasts) 0 (b .sizes) (b .inputs)
-
-gates-at : (kinds leasts : List ℕ) (g : ℕ) (sizes inputs : List ℕ) (x : ℕ) (d : Gate) → x < length sizes
-    → getD (gatesOf kinds leasts g sizes inputs) x d ≡ gateOf (getD kinds (g + x) 0) (getD leasts (g + x) 0) (map inputOf (take (getD sizes x 0) (drop (sum (take x sizes)) inputs)))
-unfolding gatesOf
-gates-at kinds leasts g [] inputs x d h = absurd (omega arith)
-gates-at kinds leasts g (n ∷ sizes) inputs zero d h = let own : g + 0 ≡ g = omega arith in rw own
-gates-at kinds leasts g (n ∷ sizes) inputs (suc x) d h =
-    let own : g + suc x ≡ g + 1 + x = omega arith in
-    rw (own, ← drop-drop (sum (take x sizes)) n inputs) (gates-at kinds leasts (g + 1) sizes (drop n inputs) x d (omega arith))
-
--- gate g of the tree, by the lists
-pub tree-gate : (b : Book) (g : ℕ) (d : Gate) → g < length (b .sizes)
-    → getD (treeOf b .gates) g d ≡ gateOf (getD (b .kinds) g 0) (getD (b .leasts) g 0) (map inputOf (take (getD (b .sizes) g 0) (drop (sum (take g (b .sizes))) (b .inputs))))
-unfolding treeOf
-tree-gate b g d h = let own : 0 + g ≡ g = omega arith in rw own at (gates-at (b .kinds) (b .leasts) 0 (b .sizes) (b .inputs) g d h)

@@ -7,4 +7,9 @@ pub mod RoundTrip
 pub mod Telling
 pub mod ReadBack
 pub mod Promises
+pub mod Welcome
+pub mod Fronts
+pub mod Exactly
 pub mod Examples
+pub mod Cases
+pub mod AtLimits

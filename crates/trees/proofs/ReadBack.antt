@@ -26,7 +26,7 @@ use Rattle.judging.proofs.Following.{Following, follow-start, follow-event, fol
 use Rattle.records.proofs.Runs.{accepted-keeps}
 
 -- each record of a tree is read as itself
-own-next : (t : Tree) (s : State) → Own (nextRecord t s)
+pub own-next : (t : Tree) (s : State) → Own (nextRecord t s)
 own-next t s =
     let kind : ℕ = getD (t .kinds) (s .gates) 0 in
     which t s Own
@@ -40,21 +40,24 @@ own-next t s =
     (λ _ _ _. own-end)
 
 module _ (t : Tree) where
-  abbrev bytes : List ℕ
+  abbrev pub bytes : List ℕ
   bytes = bytesOf t
 
   -- where the reading of the tree's bytes stands
-  record Along (b : Book) : Type 0 where
-    following : Following t bytes (counts b)
-    tells : Tells t b
-    someEvents : length (b .events) ≤ t .«event_count»
-    someGates : length (b .sizes) ≤ t .«gate_count»
+  pub record Along (b : Book) : Type 0 where
+    pub following : Following t bytes (counts b)
+    pub tells : Tells t b
+    pub someEvents : length (b .events) ≤ t .«event_count»
+    pub someGates : length (b .sizes) ≤ t .«gate_count»
+
+  pub along-start : Along start
+  along-start = record { following = follow-start t; tells = tells-start t; someEvents = omega arith; someGates = omega arith }
 
   module _ (b : Book) (v : Along b) where
-    there : recordOf (drop (b .at) bytes) ≡ nextRecord t (counts b)
+    pub there : recordOf (drop (b .at) bytes) ≡ nextRecord t (counts b)
     there = read-back (v .following) refl (own-next t (counts b))
 
-    along-event : (c next : ℕ) → OnEvent (length bytes) (counts b) (recordOf (drop (b .at) bytes)) c next → Along (addEvent b c next)
+    pub along-event : (c next : ℕ) → OnEvent (length bytes) (counts b) (recordOf (drop (b .at) bytes)) c next → Along (addEvent b c next)
     along-event c next on =
         let chance : chanceAt t (length (b .events)) ≡ c = event-told t (length (b .events)) c (on .few) (sym (at-event (v .following) there on) ∙ on .shape) in
         let less : length (b .events) < t .«event_count» = is-event t (counts b) (ap tag (sym there ∙ on .shape)) in
@@ -65,7 +68,7 @@ module _ (t : Tree) where
           someGates = v .someGates;
         }
 
-    along-gate : (kind k n next : ℕ) → OnGate (length bytes) (counts b) (recordOf (drop (b .at) bytes)) kind k n next → Along (addGate b kind k n next)
+    pub along-gate : (kind k n next : ℕ) → OnGate (length bytes) (counts b) (recordOf (drop (b .at) bytes)) kind k n next → Along (addGate b kind k n next)
     along-gate kind k n next on =
         let (h, more, is) = at-gate (v .following) there on in
         let (kinds, leasts, size) = gate-told t (length (b .sizes)) kind k n (on .few) (sym is ∙ on .shape) in
@@ -76,7 +79,7 @@ module _ (t : Tree) where
           someGates = rw length-▷ (omega arith);
         }
 
-    along-input : (i next : ℕ) → OnInput (length bytes) (counts b) (recordOf (drop (b .at) bytes)) i next → Along (addInput b i next)
+    pub along-input : (i next : ℕ) → OnInput (length bytes) (counts b) (recordOf (drop (b .at) bytes)) i next → Along (addInput b i next)
     along-input i next on =
         let (h, is) = at-input (v .following) there on in
         record {
@@ -88,7 +91,6 @@ module _ (t : Tree) where
 
   pub read-told : (b : Book) → outcome limits bytes ≡ accept b → memory b ≡ told t
   read-told b e =
-      let begin : Along start = record { following = follow-start t; tells = tells-start t; someEvents = omega arith; someGates = omega arith } in
-      let v = accepted-keeps bytes Along (λ b c next k p on. along-event b p c next on) (λ b kind least n next k p on. along-gate b p kind least n next on) (λ b i next k p on. along-input b p i next on) b begin e in
+      let v = accepted-keeps bytes Along (λ b c next k p on. along-event b p c next on) (λ b kind least n next k p on. along-gate b p kind least n next on) (λ b i next k p on. along-input b p i next on) b along-start e in
       let (allEvents, none, allGates) = is-end t (counts b) (ap tag (sym (there b (v .holds)) ∙ v .close .shape)) in
       tells-all (v .holds .tells) (le-antisymm (v .holds .someEvents) allEvents) (le-antisymm (v .holds .someGates) allGates) (omega (arith, v .kept .wanted))

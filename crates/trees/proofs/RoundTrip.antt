@@ -56,7 +56,7 @@ no-sizes : (ns : List ℕ) → length ns ≡ 0 → sum ns ≡ 0
 no-sizes [] h = refl
 no-sizes (n ∷ ns) h = absurd (omega arith)
 
-some-sizes : (ns : List ℕ) → 0 < sum ns → 0 < length ns
+pub some-sizes : (ns : List ℕ) → 0 < sum ns → 0 < length ns
 some-sizes [] h = absurd (omega arith)
 some-sizes (n ∷ ns) h = omega arith
 

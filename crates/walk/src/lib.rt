@@ -24,12 +24,6 @@ pub struct Move {
     pub depth: usize,
 }
 
-pub fn wide(x: u32) -> usize
-    ensures { λ r. ⌜ r ≡ x ⌝ }
-{
-    x as usize
-}
-
 // Goes down failed branches from node `at` to the leaf 1 and puts each node on the path: its new depth.
 fn descend(
     nodes: &[u32],
@@ -69,7 +63,7 @@ fn climb(
     let mut d = depth;
     while 0 < d {
         d -= 1;
-        let i = wide(path[d]);
+        let i = tables::wide(path[d]);
         let e = tables::event_of(nodes, i);
         sets::remove(set, e);
         let b = tables::sound_of(nodes, i);

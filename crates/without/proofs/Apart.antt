@@ -19,7 +19,7 @@ use Rattle.store.specs.declared.Known.the-variants.{Node, Unknown}
 use Rattle.store.proofs.Memory.{memo-hit}
 use Rattle.without.specs.Reading.{Readable, top}
 use Rattle.without.specs.Without.{Family, Answered, Asked, Passed, Parted}
-use Rattle.without.specs.declared.Parts.{Parts}
+use Rattle.store.specs.declared.Parts.{Parts}
 
 -- ---- a leaf
 

@@ -25,7 +25,7 @@ use Rattle.store.proofs.Building.{makes-here, makes-seq, stops-more, stops-seq,
 use Rattle.store.proofs.Memory.{memo-keep, memo-map}
 use Rattle.without.specs.Reading.{Readable, top, remain}
 use Rattle.without.specs.Without.{Right, Ready, Answered, Parted, Finishes, Taken, Takes}
-use Rattle.without.specs.declared.Parts.{Parts}
+use Rattle.store.specs.declared.Parts.{Parts}
 
 -- ---- parts of a node made for families
 

@@ -14,7 +14,7 @@ use Rattle.store.specs.declared.Built.{Built}
 use Rattle.store.specs.declared.Built.the-variants.{Done, Short}
 use Rattle.store.specs.declared.Known.{Known}
 use Rattle.store.specs.declared.Known.the-variants.{Node, Unknown}
-use Rattle.without.specs.declared.Parts.{Parts}
+use Rattle.store.specs.declared.Parts.{Parts}
 use Rattle.without.specs.Reading.{Readable, top}
 
 -- what the memo may say: operation 3 is without, of a cut number and a node number, and its result is a cut number

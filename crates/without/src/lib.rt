@@ -1,6 +1,7 @@
 // F without G: the sets of a cut diagram that do not make a function fail. F stands in the cut table, G in the node table.
 use store::Built;
 use store::Known;
+use store::Parts;
 ghost use mathlib.Core.Path.{_≡_};
 ghost use Prim.Native.Nat.{_+_, _/_, _<_, _≤_};
 ghost use lib.ListN.{length};
@@ -10,15 +11,6 @@ ghost use Rattle.store.specs.Store.{Store};
 ghost use Rattle.store.specs.Memo.{Places, Place};
 ghost use Rattle.without.specs.Reading.{Readable};
 ghost use Rattle.without.specs.Without.{Family, Ready, Asked, Missed, Passed, Parted, Finishes, Takes};
-
-// A cut number and a node number taken apart at the earlier of their events.
-pub struct Parts {
-    pub e: u32,
-    pub f1: u32,
-    pub g1: u32,
-    pub f0: u32,
-    pub g0: u32,
-}
 
 fn branches(e: u32, f1: u32, g1: u32, f0: u32, g0: u32) -> Parts
     ensures { λ r. ⌜ r ≡ record { e = e; f1 = f1; g1 = g1; f0 = f0; g0 = g0 } ⌝ }

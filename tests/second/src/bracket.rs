@@ -8,13 +8,14 @@ use std::collections::BTreeSet;
 #[derive(Clone, Copy, Debug, PartialEq, Eq)]
 pub struct Bracket {
     pub number: u32,
+    pub place: u64,
     pub low: u32,
     pub high: u32,
 }
 
-/// `areas_suffice` says whether the work areas have their smallest lengths. Order 12, 9, 7.
+/// `areas_suffice` says whether the work areas have their smallest lengths. Order 12, 9, 7, place 0.
 pub fn bracket(diagram: &Lent, chances: &[u32], areas_suffice: bool) -> Bracket {
-    let refused = |number| Bracket { number, low: 0, high: 0 };
+    let refused = |number| Bracket { number, place: 0, low: 0, high: 0 };
     if !diagram.is_diagram() {
         return refused(12);
     }
@@ -34,7 +35,8 @@ pub fn bracket(diagram: &Lent, chances: &[u32], areas_suffice: bool) -> Bracket 
         low.push((a * low[failed] + (d - a) * low[sound]) / d);
         high.push((a * high[failed] + (d - a) * high[sound]).div_ceil(d));
     }
-    Bracket { number: 0, low: low[diagram.root as usize] as u32, high: high[diagram.root as usize] as u32 }
+    let root = diagram.root as usize;
+    Bracket { number: 0, place: 0, low: low[root] as u32, high: high[root] as u32 }
 }
 
 /// L: the events in nodes reached from the root.

@@ -1,6 +1,6 @@
 //! Listing and bracket of any lent diagram, against the second program.
 
-use crate::bracket::bracket;
+use crate::bracket::{bracket, Bracket};
 use crate::compare::no_fault;
 use crate::generator;
 use crate::lent::Lent;
@@ -53,6 +53,7 @@ pub fn one_listing(
     let used = expected.bytes.len();
     let answer = ListAnswer {
         number: expected.number,
+        place: expected.place,
         written: expected.written as u64,
         used: used as u64,
         last: expected.last,
@@ -117,7 +118,8 @@ pub fn compare_bracket(
         let expected = bracket(diagram, &chances, suffice);
         let got = library.bracket(diagram, &chances, areas.each_mut().map(Guarded::lend));
         no_fault(library, tally);
-        let answer = BracketAnswer { number: expected.number, low: expected.low, high: expected.high };
+        let Bracket { number, place, low, high } = expected;
+        let answer = BracketAnswer { number, place, low, high };
         tally.due("bracket", answer.number);
         tally.same("bracket", answer, got);
         tally.holds("guards of a bracket", areas.iter().all(Guarded::guards_stand));

@@ -305,11 +305,11 @@ impl Library for Driver {
         let request = request.number(diagram.root).number(u64::from(after.is_none()));
         // From the beginning the set is not looked at.
         let request = request.words(&after.map_or([u64::MAX, 1, 0, room.len() as u64], |set| set.0)).bytes(room);
-        let [number, written, used, finished, last @ ..]: [u64; 8] = self.ask(request, &mut [Area::Bytes(room)]);
+        let [number, place, written, used, finished, last @ ..]: [u64; 9] = self.ask(request, &mut [Area::Bytes(room)]);
         if finished > 1 && self.fault.get().is_none() {
             self.fault.set(Some("finished is neither 0 nor 1"));
         }
-        ListAnswer { number: small(number), written, used, last: Set(last), finished: finished == 1 }
+        ListAnswer { number: small(number), place, written, used, last: Set(last), finished: finished == 1 }
     }
 
     fn bracket(&self, diagram: &Lent, chances: &[u32], work: [&mut [u32]; 2]) -> BracketAnswer {
@@ -318,8 +318,8 @@ impl Library for Driver {
         let request = request.number(diagram.root).numbers(chances);
         let [lows, highs] = work;
         let request = request.numbers(lows).numbers(highs);
-        let [number, low, high] = self.ask(request, &mut [Area::Numbers(lows), Area::Numbers(highs)]);
-        BracketAnswer { number: small(number), low: small(low), high: small(high) }
+        let [number, place, low, high] = self.ask(request, &mut [Area::Numbers(lows), Area::Numbers(highs)]);
+        BracketAnswer { number: small(number), place, low: small(low), high: small(high) }
     }
 
     fn fault(&self) -> Option<&'static str> {

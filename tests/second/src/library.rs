@@ -33,6 +33,7 @@ pub struct AnalyseAnswer {
 #[derive(Clone, Copy, Debug, PartialEq, Eq)]
 pub struct ListAnswer {
     pub number: u32,
+    pub place: u64,
     pub written: u64,
     pub used: u64,
     pub last: Set,
@@ -42,6 +43,7 @@ pub struct ListAnswer {
 #[derive(Clone, Copy, Debug, PartialEq, Eq)]
 pub struct BracketAnswer {
     pub number: u32,
+    pub place: u64,
     pub low: u32,
     pub high: u32,
 }

@@ -3,10 +3,11 @@
 use crate::lent::Lent;
 use crate::sets::Set;
 
-/// What a listing call answers. The bytes go to the front of the room.
+/// What a listing call answers. The place is 0 always. The bytes go to the front of the room.
 #[derive(Clone, Debug, PartialEq, Eq)]
 pub struct Listing {
     pub number: u32,
+    pub place: u64,
     pub written: usize,
     pub bytes: Vec<u8>,
     pub last: Set,
@@ -14,7 +15,7 @@ pub struct Listing {
 }
 
 fn refused(number: u32) -> Listing {
-    Listing { number, written: 0, bytes: Vec::new(), last: Set::EMPTY, finished: false }
+    Listing { number, place: 0, written: 0, bytes: Vec::new(), last: Set::EMPTY, finished: false }
 }
 
 /// `None` starts from the beginning, which isn't "after the empty set": that set is the last of all.
@@ -26,8 +27,14 @@ pub fn list(diagram: &Lent, after: Option<Set>, room: usize) -> Listing {
     if after.is_some_and(|start| start.holds_any(beyond)) {
         return refused(13);
     }
-    let mut answer =
-        Listing { number: 0, written: 0, bytes: Vec::new(), last: after.unwrap_or(Set::EMPTY), finished: true };
+    let mut answer = Listing {
+        number: 0,
+        place: 0,
+        written: 0,
+        bytes: Vec::new(),
+        last: after.unwrap_or(Set::EMPTY),
+        finished: true,
+    };
     for cut in Walk::new(diagram, after) {
         let bytes = cut.cut_bytes();
         if answer.bytes.len() + bytes.len() > room {

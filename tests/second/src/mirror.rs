@@ -88,6 +88,7 @@ impl Library for Mirror {
         room[..answer.bytes.len()].copy_from_slice(&answer.bytes);
         ListAnswer {
             number: answer.number,
+            place: answer.place,
             written: answer.written as u64,
             used: answer.bytes.len() as u64,
             last: answer.last,
@@ -102,6 +103,6 @@ impl Library for Mirror {
         if answer.number == 0 {
             work.into_iter().for_each(|area| area.fill(0));
         }
-        BracketAnswer { number: answer.number, low: answer.low, high: answer.high }
+        BracketAnswer { number: answer.number, place: answer.place, low: answer.low, high: answer.high }
     }
 }

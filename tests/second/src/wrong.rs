@@ -54,6 +54,7 @@ wrongs! {
     SkipsWhatDoesNotFit,
     BySize,
     NoThirteen,
+    ThirteenSaysTheEvent,
     ZerosBehindTheCuts,
     // Bracket.
     ZeroToOne,
@@ -61,6 +62,7 @@ wrongs! {
     RoundsToNearest,
     AreasDirtyBehind,
     SevenOnlyForNodes,
+    SevenSaysTheEvent,
     NineBeforeTwelve,
     // Lent diagrams.
     JudgesReachedNodesOnly,

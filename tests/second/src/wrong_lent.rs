@@ -53,7 +53,7 @@ fn without_unreached(diagram: &Lent) -> Lent {
 }
 
 pub fn wrong_list(wrong: Wrong, diagram: &Lent, after: Option<Set>, room: &mut [u8]) -> ListAnswer {
-    let refused = |number| ListAnswer { number, written: 0, used: 0, last: Set::EMPTY, finished: false };
+    let refused = |number| ListAnswer { number, place: 0, written: 0, used: 0, last: Set::EMPTY, finished: false };
     let Some(diagram) = &seen(wrong, diagram) else { return refused(12) };
     let good = diagram.is_diagram();
     let after = match wrong {
@@ -69,6 +69,9 @@ pub fn wrong_list(wrong: Wrong, diagram: &Lent, after: Option<Set>, room: &mut [
     let room_length = room.len();
     let mut answer = Mirror.list(diagram, after, room);
     if answer.number != 0 {
+        if wrong == ThirteenSaysTheEvent && answer.number == 13 {
+            answer.place = diagram.event_count;
+        }
         if wrong == SkipsWhatDoesNotFit && answer.number == 14 {
             return other_list(diagram, after, room, false);
         }
@@ -93,7 +96,8 @@ fn other_list(diagram: &Lent, after: Option<Set>, room: &mut [u8], by_size: bool
     if by_size {
         cuts.sort_by_key(|cut| cut.members().len());
     }
-    let mut answer = ListAnswer { number: 0, written: 0, used: 0, last: after.unwrap_or(Set::EMPTY), finished: true };
+    let mut answer =
+        ListAnswer { number: 0, place: 0, written: 0, used: 0, last: after.unwrap_or(Set::EMPTY), finished: true };
     for cut in cuts {
         let bytes = cut.cut_bytes();
         let used = answer.used as usize;
@@ -110,7 +114,7 @@ fn other_list(diagram: &Lent, after: Option<Set>, room: &mut [u8], by_size: bool
 }
 
 pub fn wrong_bracket(wrong: Wrong, diagram: &Lent, chances: &[u32], work: [&mut [u32]; 2]) -> BracketAnswer {
-    let Some(diagram) = &seen(wrong, diagram) else { return BracketAnswer { number: 12, low: 0, high: 0 } };
+    let Some(diagram) = &seen(wrong, diagram) else { return BracketAnswer { number: 12, place: 0, low: 0, high: 0 } };
     let [low_area, high_area] = work;
     let mut answer = Mirror.bracket(diagram, chances, [&mut *low_area, &mut *high_area]);
     match (wrong, answer.number) {
@@ -131,6 +135,7 @@ pub fn wrong_bracket(wrong: Wrong, diagram: &Lent, chances: &[u32], work: [&mut 
             }
             answer = Mirror.bracket(diagram, &mended, [low_area, high_area]);
         }
+        (SevenSaysTheEvent, 7) => answer.place = chances.iter().position(|&a| a > D).map_or(0, |event| event as u64),
         (NineBeforeTwelve, 12) if (chances.len() as u64) < diagram.event_count => answer.number = 9,
         _ => {}
     }

@@ -33,6 +33,7 @@ returns c =
     let f = c .before .before .before .before .before .before .before .before .before .before .before .before .before .before .before .before .fill-all in
     record {
       number-is = refl;
+      no-place = refl;
       low-is = low-read (at .pre .0 .lent .root-in) (c .before .before .before .before .before .before .before .before .before .before .number-in .ensures) (f .ensures .0);
       high-is = high-read (at .pre .0 .lent .root-in) (c .before .before .before .before .before .before .before .before .number-in2 .ensures) (f .ensures .1);
       lows = c .before .before .before .before .before .before .clear .ensures ∙ ap (λ k. replicate k 0) (f .kept .1 .1 .1 .1 .1 .0);

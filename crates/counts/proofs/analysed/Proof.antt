@@ -45,10 +45,10 @@ read-requires : tie.Need-read-requires
 read-requires c κs = search needs
 
 report-requires : tie.Need-report-requires
-report-requires c κs = held _ (c .before .before .before .before .before .read .ensures) (c .before .before .before .before .before .before .before .before .before .before .before .before .before .before .before .before .analyse .ensures) (omega arith)
+report-requires c κs = held _ (c .before .before .before .before .before .read .ensures .0) (c .before .before .before .before .before .before .before .before .before .before .before .before .before .before .before .before .analyse .ensures) (omega arith)
 
 say-rooms-requires : tie.Need-say-rooms-requires
-say-rooms-requires c κs = let h = held _ (c .before .before .before .before .before .before .read .ensures) (c .before .before .before .before .before .before .before .before .before .before .before .before .before .before .before .before .before .analyse .ensures) (omega arith) in let n = h .nodes .lent .fits in let m = h .cuts .fits in (omega arith, omega arith)
+say-rooms-requires c κs = let h = held _ (c .before .before .before .before .before .before .read .ensures .0) (c .before .before .before .before .before .before .before .before .before .before .before .before .before .before .before .before .before .analyse .ensures) (omega arith) in let n = h .nodes .lent .fits in let m = h .cuts .fits in (omega arith, omega arith)
 
 returns-2 : tie.Need-returns-2
 returns-2 c = search needs

@@ -10,20 +10,20 @@ list-requires c κs = search needs
 cast-t14 : tie.Need-cast-t14
 cast-t14 c = search needs
 
-cast-t17 : tie.Need-cast-t17
-cast-t17 c = search needs
+cast-t18 : tie.Need-cast-t18
+cast-t18 c = search needs
 
-array-read-t20 : tie.Need-array-read-t20
-array-read-t20 c = search needs
+array-read-t21 : tie.Need-array-read-t21
+array-read-t21 c = search needs
 
-array-read-t23 : tie.Need-array-read-t23
-array-read-t23 c = search needs
+array-read-t24 : tie.Need-array-read-t24
+array-read-t24 c = search needs
 
-array-read-t26 : tie.Need-array-read-t26
-array-read-t26 c = search needs
+array-read-t27 : tie.Need-array-read-t27
+array-read-t27 c = search needs
 
-array-read-t29 : tie.Need-array-read-t29
-array-read-t29 c = search needs
+array-read-t30 : tie.Need-array-read-t30
+array-read-t30 c = search needs
 
 same-length : tie.Need-same-length
 same-length c = search needs
@@ -37,10 +37,10 @@ matticklet-list-spec =
     (tie.spec
     list-requires
     cast-t14
-    cast-t17
-    array-read-t20
-    array-read-t23
-    array-read-t26
-    array-read-t29
+    cast-t18
+    array-read-t21
+    array-read-t24
+    array-read-t27
+    array-read-t30
     same-length
     returns)

@@ -22,10 +22,10 @@ chances-of-requires c κs = search needs
 
 returns : tie.Need-returns
 returns c =
-    (read-numbers _ (c .before .before .before .before .before .before .before .before .before .before .before .read .ensures) (c .before .before .before .before .before .before .before .before .before .number .ensures) (c .before .before .before .before .before .before .before .before .place .ensures), read-arrays _ (c .before .before .before .before .before .before .before .before .before .before .before .read .ensures) (c .before .before .before .before .before .before .before .before .before .number .ensures) (omega arith) (c .before .before .before .before .chances-of .ensures) _)
+    (read-numbers _ (c .before .before .before .before .before .before .before .before .before .before .before .read .ensures .0) (c .before .before .before .before .before .before .before .before .before .number .ensures) (c .before .before .before .before .before .before .before .before .place .ensures), read-arrays _ (c .before .before .before .before .before .before .before .before .before .before .before .read .ensures .0) (c .before .before .before .before .before .before .before .before .before .number .ensures) (omega arith) (c .before .before .before .before .chances-of .ensures) _)
 
 returns-2 : tie.Need-returns-2
-returns-2 c = (read-numbers _ (c .before .before .before .before .before .read .ensures) (c .before .before .before .number .ensures) (c .before .before .place .ensures), kept-arrays _ (c .before .before .before .before .before .read .ensures) (c .before .before .before .number .ensures) (λ z. omega arith) _)
+returns-2 c = (read-numbers _ (c .before .before .before .before .before .read .ensures .0) (c .before .before .before .number .ensures) (c .before .before .place .ensures), kept-arrays _ (c .before .before .before .before .before .read .ensures .0) (c .before .before .before .number .ensures) (λ z. omega arith) _)
 
 pub matticklet-read-spec : {M : Type 1} → statement M
 matticklet-read-spec =

@@ -23,7 +23,7 @@ same-length : tie.Need-same-length
 same-length c = search needs
 
 returns : tie.Need-returns
-returns c = written _ _ _ _ _ _ _ _ (c .before .before .before .before .before .before .before .before .before .before .before .events-of .ensures) (c .before .before .before .before .before .write .ensures) (c .before .before .number .ensures) (c .before .place .ensures)
+returns c = written _ _ _ _ _ _ _ _ (c .before .before .before .before .before .before .before .before .before .before .before .events-of .ensures) (c .before .before .before .before .before .write .ensures .0) (c .before .before .number .ensures) (c .before .place .ensures)
 
 pub matticklet-write-spec : {M : Type 1} → statement M
 matticklet-write-spec =

@@ -42,7 +42,7 @@ read-requires : tie.Need-read-requires
 read-requires c κs = search needs
 
 report-requires : tie.Need-report-requires
-report-requires c κs = held _ (c .before .before .before .before .before .read .ensures) (c .before .before .before .before .before .before .before .before .before .before .before .before .before .before .before .before .analyse .ensures) (omega arith)
+report-requires c κs = held _ (c .before .before .before .before .before .read .ensures .0) (c .before .before .before .before .before .before .before .before .before .before .before .before .before .before .before .before .analyse .ensures) (omega arith)
 
 returns-2 : tie.Need-returns-2
 returns-2 c = search needs

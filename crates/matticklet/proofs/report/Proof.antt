@@ -1,6 +1,5 @@
 -- `matticklet::report` meets its contract. Assumes nothing.
 use borrow.Author.Needs.{needs}
-use native.Mathlib.Omega.{arith}
 use Rattle.matticklet.proofs.report.Statement.{statement}
 use Rattle.matticklet.proofs.report.Tie as tie
 
@@ -16,11 +15,8 @@ say-cuts-requires c κs = c .before .before .before .pre .cuts
 returns-2 : tie.Need-returns-2
 returns-2 c = search needs
 
-top-requires : tie.Need-top-requires
-top-requires c κs = (c .before .before .before .before .before .before .before .before .pre .nodes, (omega arith, omega arith))
-
 say-top-requires : tie.Need-say-top-requires
-say-top-requires c κs = search needs
+say-top-requires c κs = c .before .before .before .before .before .before .before .pre .nodes
 
 returns-3 : tie.Need-returns-3
 returns-3 c = search needs
@@ -33,6 +29,5 @@ report-spec =
     returns
     say-cuts-requires
     returns-2
-    top-requires
     say-top-requires
     returns-3)

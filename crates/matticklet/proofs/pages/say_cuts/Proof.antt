@@ -4,12 +4,12 @@ use mathlib.Core.Bool.{true≢false}
 use lib.ListN.{length}
 use Rattle.tables.specs.Table.{den}
 use Rattle.walk.specs.After.{toList}
-use Rattle.listing.specs.Answers.{Within}
+use Rattle.listing.specs.Answers.{GoodStart}
 use Rattle.matticklet.proofs.pages.say_cuts.Statement.{statement}
 use Rattle.matticklet.proofs.pages.say_cuts.Tie as tie
 
 abbrev Inv-loop : tie.InvT-loop
-Inv-loop cuts events count root text₀ begin₀ s₀ text begin s = Within events begin s
+Inv-loop cuts events count root text₀ begin₀ s₀ text begin s = GoodStart events begin s
 
 abbrev μ-loop : tie.MeasureT-loop
 μ-loop cuts events count root text₀ begin₀ s₀ text begin s = length (toList events (den cuts root) begin s)

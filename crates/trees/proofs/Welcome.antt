@@ -1,0 +1,77 @@
+-- When a record is not refused: what the rules ask of the state, of the record's numbers, and of nothing else.
+-- Assumes nothing.
+use mathlib.Core.Path.{_≡_, refl, sym, _∙_}
+use mathlib.Core.Bool.{Bool, true, false, false≢true}
+use Prim.Native.Nat.{ℕ, _+_, _-_, _≤_, _<_}
+use native.Mathlib.Omega.{arith}
+use lib.Dec.{ltb, leb, eqb}
+use borrow.Author.Tests.{ltb-true, ltb-false, leb-true, eqb-true, eqb-false, le-ltb, ne-eqb}
+use Rattle.paper.specs.Limits.{limits, billion}
+use Rattle.paper.specs.Flat.{gatesFrom}
+use Rattle.rules.specs.Rules.{wrongK, eventStep, gateStep, endStep, admitOf, Fits}
+use Rattle.judging.specs.Bytes.{inputRecord, gateRecord}
+use Rattle.rules.specs.declared.format.Record.{Record}
+use Rattle.rules.specs.declared.judge.State.{State}
+use Rattle.rules.specs.declared.judge.Step.{Step}
+use Rattle.rules.specs.declared.judge.Step.the-variants.{AddEvent, AddGate, AddInput, Close, Refused}
+use Rattle.rules.proofs.Cases.{if-elim}
+
+abbrev pub Welcome : Step → Type 0
+Welcome (AddEvent c next) = Unit {0}
+Welcome (AddGate kind k n next) = Unit {0}
+Welcome (AddInput i next) = Unit {0}
+Welcome Close = Unit {0}
+Welcome (Refused a) = ⊥
+
+-- k is right, in a gate that has one
+pub not-wrong : (kind k n : ℕ) → (kind ≡ 4 → (1 ≤ k) × (k ≤ n)) → wrongK kind k n ≡ false
+not-wrong kind k n h =
+    let P : Bool → Type 0 = λ b. b ≡ false in
+    if-elim P (eqb kind 4)
+    (λ e. let (low, high) = h (eqb-true kind 4 e) in rw (ne-eqb k 0 (λ z. omega arith)) (le-ltb n k high))
+    (λ _. refl)
+
+module _ (s : State) (after : ℕ) where
+  pub event-welcome : (c : ℕ) → s .gates ≡ 0 → s .events < limits .events → c ≤ billion → Welcome (eventStep limits s after c)
+  event-welcome c none few h =
+      if-elim Welcome (ltb 0 (s .gates)) (λ e. absurd (omega (arith, ltb-true 0 (s .gates) e)))
+      (λ _. if-elim Welcome (leb (limits .events) (s .events)) (λ e. absurd (omega (arith, leb-true (limits .events) (s .events) e)))
+      (λ _. if-elim Welcome (ltb billion c) (λ e. absurd (omega (arith, ltb-true billion c e))) (λ _. tt)))
+
+  pub gate-welcome : (kind k n : ℕ) → s .left ≡ 0 → s .gates < limits .gates → 1 ≤ n → n ≤ limits .inputs → s .inputs + n ≤ limits .inAll
+      → wrongK kind k n ≡ false → Welcome (gateStep limits s after kind k n)
+  gate-welcome kind k n none few some small room right =
+      if-elim Welcome (ltb 0 (s .left)) (λ e. absurd (omega (arith, ltb-true 0 (s .left) e)))
+      (λ _. if-elim Welcome (leb (limits .gates) (s .gates)) (λ e. absurd (omega (arith, leb-true (limits .gates) (s .gates) e)))
+      (λ _. if-elim Welcome (eqb n 0) (λ e. absurd (omega (arith, eqb-true n 0 e)))
+      (λ _. if-elim Welcome (ltb (limits .inputs) n) (λ e. absurd (omega (arith, ltb-true (limits .inputs) n e)))
+      (λ _. if-elim Welcome (ltb (limits .inAll) (s .inputs + n)) (λ e. absurd (omega (arith, ltb-true (limits .inAll) (s .inputs + n) e)))
+      (λ _. if-elim Welcome (wrongK kind k n) (λ e. absurd (false≢true (sym right ∙ e))) (λ _. tt))))))
+
+module _ (s : State) (len : ℕ) where
+  -- an input that fits the last gate
+  pub input-welcome : (code : ℕ) → 0 < s .left → 0 < s .gates → Fits (s .events) (s .gates - 1) code → Welcome (admitOf limits len s (inputRecord code))
+  input-welcome code some gates fits =
+      if-elim (λ (r : Record). Welcome (admitOf limits len s r)) (ltb code gatesFrom)
+      (λ low. if-elim Welcome (eqb (s .left) 0) (λ e. absurd (omega (arith, eqb-true (s .left) 0 e)))
+      (λ _. if-elim Welcome (leb (s .events) code) (λ e. absurd (omega (arith, leb-true (s .events) code e, fits .event (ltb-true code gatesFrom low)))) (λ _. tt)))
+      (λ high. if-elim Welcome (eqb (s .left) 0) (λ e. absurd (omega (arith, eqb-true (s .left) 0 e)))
+      (λ _. if-elim Welcome (leb (s .gates) (code - gatesFrom + 1))
+      (λ e. absurd (omega (arith, leb-true (s .gates) (code - gatesFrom + 1) e, ltb-false code gatesFrom high, fits .below))) (λ _. tt)))
+
+  -- a gate of one of the three kinds
+  pub kind-welcome : (kind k n : ℕ) → (2 ≤ kind) × (kind ≤ 4) → s .left ≡ 0 → s .gates < limits .gates → 1 ≤ n → n ≤ limits .inputs
+      → s .inputs + n ≤ limits .inAll → (kind ≡ 4 → (1 ≤ k) × (k ≤ n)) → Welcome (admitOf limits len s (gateRecord kind k n))
+  kind-welcome kind k n (low, high) none few some small room right =
+      let P : Record → Type 0 = λ r. Welcome (admitOf limits len s r) in
+      if-elim P (eqb kind 2) (λ _. gate-welcome s _ 2 0 n none few some small room (not-wrong 2 0 n (λ z. absurd (omega arith))))
+      (λ a. if-elim P (eqb kind 3) (λ _. gate-welcome s _ 3 0 n none few some small room (not-wrong 3 0 n (λ z. absurd (omega arith))))
+      (λ b. if-elim P (eqb kind 4) (λ e. gate-welcome s _ 4 k n none few some small room (not-wrong 4 k n (λ _. right (eqb-true kind 4 e))))
+      (λ d. absurd (omega (arith, eqb-false kind 2 a, eqb-false kind 3 b, eqb-false kind 4 d)))))
+
+  pub end-welcome : s .left ≡ 0 → len ≤ s .at + 1 → 0 < s .events → 0 < s .gates → Welcome (endStep len s (s .at + 1))
+  end-welcome none short events gates =
+      if-elim Welcome (ltb 0 (s .left)) (λ e. absurd (omega (arith, ltb-true 0 (s .left) e)))
+      (λ _. if-elim Welcome (ltb (s .at + 1) len) (λ e. absurd (omega (arith, ltb-true (s .at + 1) len e)))
+      (λ _. if-elim Welcome (eqb (s .events) 0) (λ e. absurd (omega (arith, eqb-true (s .events) 0 e)))
+      (λ _. if-elim Welcome (eqb (s .gates) 0) (λ e. absurd (omega (arith, eqb-true (s .gates) 0 e))) (λ _. tt))))
