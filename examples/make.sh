@@ -1,6 +1,6 @@
 #!/bin/sh
-# Makes the trees of this directory from their equations, and what the program must write for each.
-# The .names files say which event and gate got which number.
+# Makes the trees of this directory from their typed equations, and what the program must write for each.
+# The .names files say which event and gate got which number; corridor.cuts has the cuts by name, as c/equations prints them.
 set -e
 cd "$(dirname "$0")"
 cargo build --release --offline --quiet -j1 --manifest-path ../tests/second/Cargo.toml
@@ -10,3 +10,7 @@ for tree in case1 corridor european1; do
     $second names $tree.txt > $tree.names
     $second program $tree.tree > $tree.out
 done
+awk 'NR == FNR { if ($1 == "event") name[$2] = $3; next }
+    cuts && !/^top / { for (i = 1; i <= NF; i++) $i = name[$i]; print }
+    /^top / { print }
+    /^cuts$/ { cuts = 1 }' corridor.names corridor.out > corridor.cuts

@@ -1,4 +1,4 @@
-/* Matticklet from C and C++: the five calls of the library `libexported.a` (x86-64 Linux, System V calling convention).
+/* Matticklet from C and C++: the seven calls of the library `libexported.a` (x86-64 Linux, System V calling convention).
  *
  * Every call answers for any arguments and never fails otherwise: `number` is 0 for done, else the reason of a refusal (below).
  * The library holds no state, allocates nothing, and touches only what it is lent, until it returns. What memory that is lent to be
@@ -37,7 +37,11 @@ enum {
     MATTICKLET_CUTS_FULL = 11,
     MATTICKLET_NO_DIAGRAM = 12,
     MATTICKLET_BEYOND = 13,      /* a set names an event beyond the number of events */
-    MATTICKLET_ROOM = 14         /* room too small for the next cut */
+    MATTICKLET_ROOM = 14,        /* room too small for the next cut */
+    MATTICKLET_LINE = 15,        /* a line outside the grammar, or a chance that may not be given */
+    MATTICKLET_LEFT_TWICE = 16,  /* a left name twice */
+    MATTICKLET_RING = 17,        /* a name that leads back to itself */
+    MATTICKLET_ROOTS = 18        /* not exactly one root */
 };
 
 /* Limits of a tree and of a table. */
@@ -47,6 +51,7 @@ enum {
     MATTICKLET_GATE_INPUTS = 64,
     MATTICKLET_INPUTS = 4096,          /* of all gates together */
     MATTICKLET_TREE_BYTES = 14849,     /* the longest tree that is accepted */
+    MATTICKLET_TEXT_BYTES = 47650,     /* the longest text that a tree is exported as */
     MATTICKLET_TABLE_NUMBERS = 3000000,
     MATTICKLET_BILLION = 1000000000,   /* a chance of 1 */
     MATTICKLET_SET_WORDS = 4           /* event e is bit e % 64 of word e / 64 */
@@ -155,6 +160,56 @@ struct matticklet_ends {
 void matticklet_bracket(const uint32_t *nodes, size_t nodes_length, size_t events, size_t count, size_t root,
                         const uint32_t *chances, size_t chances_length, uint32_t *lows, size_t lows_length,
                         uint32_t *highs, size_t highs_length, struct matticklet_ends *answer);
+
+/* A tree as it is typed: lines in any order, each ended by a line feed, spaced exactly so:
+ *   a = b1 or b2      b1 = c1 and c2      x = at-least 2 in u, v, w      x = y, an or of one input
+ *   p c1 5000         the chance of c1 in billionths; 0 where no line gives it
+ * A line has one connective. A name is a letter, then letters or digits, at most 12 bytes; and, or, at, in and p are no names. A number has no
+ * leading zeros and any length. Left names are gates, all others events; the one left name that is no input is the root. Events are numbered by
+ * first appearance in a depth-first walk from the root, left to right, gates when the walk leaves them. */
+
+struct matticklet_import {
+    uint64_t number; /* 0, 4, 5, 7, 9, or 15 to 18 */
+    uint64_t place;  /* 0 */
+    uint64_t line;   /* with 15 and 16 the offset of the line at fault, else 0 */
+    uint64_t ring;   /* with 17 how many lines the ring has, else 0 */
+    uint64_t events; /* 0 in a refusal */
+    uint64_t gates;  /* 0 in a refusal */
+};
+
+/* Reads typed equations: 9, then 15 for the first such line, judged against the equations of the whole text (a line outside the grammar; a chance
+ * for a left name, for a name in no equation, or for one already given), then 16, 17, 18, then 4, 5 or 7 in the order of the tree's records.
+ * Lengths, otherwise 9: each of the eleven lists is at least one longer than the text has bytes; the text is shorter than 2^32 - 1 bytes.
+ *   heads to order   work lists, zero after every answer but 9
+ *   ring             with 17 the offsets of the lines of one ring, each line's left name an input of the line before it, the first of the last, then
+ *                    zeros; with every other answer but 9 zero
+ *   shown            done: for each event and then each gate the offset of its name's first appearance in an equation, then zeros; with every
+ *                    other answer but 9 zero
+ * 9 changes nothing. Done: the five arrays hold the tree and zeros behind its counts, as matticklet_read leaves them; a refusal changes none of them. */
+void matticklet_import(const uint8_t *text, size_t text_length, uint32_t *heads, size_t heads_length,
+                       uint32_t *next, size_t next_length, uint32_t *names, size_t names_length,
+                       uint32_t *defs, size_t defs_length, uint32_t *marks, size_t marks_length,
+                       uint32_t *amounts, size_t amounts_length, uint32_t *starts, size_t starts_length,
+                       uint32_t *rights, size_t rights_length, uint32_t *order, size_t order_length,
+                       uint32_t *ring, size_t ring_length, uint32_t *shown, size_t shown_length,
+                       struct matticklet_import *answer, uint32_t chances[MATTICKLET_EVENTS],
+                       uint8_t kinds[MATTICKLET_GATES], uint8_t leasts[MATTICKLET_GATES],
+                       uint8_t sizes[MATTICKLET_GATES], uint16_t inputs[MATTICKLET_INPUTS]);
+
+struct matticklet_export {
+    uint64_t number; /* 0, 2 to 8 as the tree's bytes would get, or 9 */
+    uint64_t place;  /* as those bytes would get; 0 with 9 */
+    uint64_t bytes;  /* written; 0 in a refusal */
+};
+
+/* Types a tree to the front of room, a line for each gate and then one for each event, also where its chance is 0: event 0 is e0, gate 0 is g0, and a
+ * gate of one input is x = y whatever its kind. Refused as matticklet_write would be, then with 9 where the room is shorter than the text. Any values
+ * may stand in the arrays, and counts may exceed them. The room behind the text stays as it was; a refusal leaves all of it so. A room of
+ * MATTICKLET_TEXT_BYTES is enough for any tree. */
+void matticklet_export(size_t events, size_t gates, const uint32_t chances[MATTICKLET_EVENTS],
+                       const uint8_t kinds[MATTICKLET_GATES], const uint8_t leasts[MATTICKLET_GATES],
+                       const uint8_t sizes[MATTICKLET_GATES], const uint16_t inputs[MATTICKLET_INPUTS],
+                       uint8_t *room, size_t room_length, struct matticklet_export *answer);
 
 #ifdef __cplusplus
 }

@@ -13,9 +13,10 @@
 
 #include "matticklet.h"
 
-enum { GUARD = 72, AREAS = 16 }; /* no area is aligned beyond its need */
+enum { GUARD = 72, AREAS = 24 }; /* no area is aligned beyond its need */
 enum { GUARDS_STAND = 1, CONST_AREAS_STAND = 2 };
-enum { READ = 1, WRITE = 2, ANALYSE = 3, LIST = 4, BRACKET = 5 };
+enum { READ = 1, WRITE = 2, ANALYSE = 3, LIST = 4, BRACKET = 5, IMPORT = 6, EXPORT = 7 };
+enum { LISTS = 11, RING = 9 }; /* of an import, in the header's order */
 
 struct area {
     unsigned char *whole; /* guard, contents, guard */
@@ -206,6 +207,41 @@ static void bracket_call(void)
     reply(answer, written, 2);
 }
 
+static void import_call(void)
+{
+    struct area *text = area(1), *list[LISTS];
+    for (int k = 0; k < LISTS; k++)
+        list[k] = area(4);
+    struct area *chances = area(4), *kinds = area(1), *leasts = area(1), *sizes = area(1), *inputs = area(2);
+    struct area *answer = answer_area(6);
+    struct matticklet_import *a = contents(answer);
+    uint32_t *ring = contents(list[RING]);
+    matticklet_import(contents(text), text->length, contents(list[0]), list[0]->length, contents(list[1]), list[1]->length,
+                      contents(list[2]), list[2]->length, contents(list[3]), list[3]->length, contents(list[4]), list[4]->length,
+                      contents(list[5]), list[5]->length, contents(list[6]), list[6]->length, contents(list[7]), list[7]->length,
+                      contents(list[8]), list[8]->length, ring, list[RING]->length, contents(list[10]), list[10]->length, a,
+                      contents(chances), contents(kinds), contents(leasts), contents(sizes), contents(inputs));
+    if (spoiled == IMPORT && a->number == MATTICKLET_RING && a->ring > 1)
+        ring[0] = ring[1]; /* a line twice: no longer a ring */
+    struct area *written[] = { list[0], list[1], list[2], list[3], list[4], list[5], list[6], list[7], list[8], list[9], list[10],
+                               chances, kinds, leasts, sizes, inputs };
+    reply(answer, written, LISTS + 5);
+}
+
+static void export_call(void)
+{
+    size_t events = number(), gates = number();
+    struct area *chances = area(4), *kinds = area(1), *leasts = area(1), *sizes = area(1), *inputs = area(2), *room = area(1);
+    struct area *answer = answer_area(3);
+    struct matticklet_export *a = contents(answer);
+    matticklet_export(events, gates, contents(chances), contents(kinds), contents(leasts), contents(sizes), contents(inputs),
+                      contents(room), room->length, a);
+    if (spoiled == EXPORT && a->number == MATTICKLET_DONE && gates == 3)
+        ((uint8_t *)contents(kinds))[MATTICKLET_GATES - 1] ^= 1; /* an area that is only lent to be read */
+    struct area *written[] = { room };
+    reply(answer, written, 1);
+}
+
 int main(int words, char **word)
 {
     uint64_t call;
@@ -220,6 +256,8 @@ int main(int words, char **word)
         case ANALYSE: analyse_call(); break;
         case LIST: list_call(); break;
         case BRACKET: bracket_call(); break;
+        case IMPORT: import_call(); break;
+        case EXPORT: export_call(); break;
         default: fail("no such call");
         }
         if (fflush(stdout) != 0)

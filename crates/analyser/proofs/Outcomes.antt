@@ -9,7 +9,7 @@ use Rattle.paper.specs.Limits.{limits}
 use Rattle.rules.specs.Answers.{verdict}
 use Rattle.records.specs.Judge.{Outcome, accept, refuse, outcome}
 use Rattle.records.specs.Memory.{inMemory}
-use Rattle.records.specs.Trees.{treeOf}
+use Rattle.records.specs.Trees.{treeOf, treeIn}
 use Rattle.rules.specs.declared.Answer.{Answer}
 use Rattle.rules.specs.declared.Answer.the-variants.{Done, Cut, UnknownKind, OutOfPlace, Count, Threshold, Reference, Chance, Unused, Room}
 use Rattle.records.specs.declared.Reading.{Reading}
@@ -17,7 +17,7 @@ use Rattle.trees.proofs.Promises.{Good, done-is-good}
 use Rattle.memory.specs.Memory.{Memory, Lengths}
 use Rattle.memory.specs.Outcome.{Refused, at}
 use Rattle.analysis.specs.Completing.{CutsFilled}
-use Rattle.analysis.specs.Filling.{treeIn, WasRead, Filled}
+use Rattle.analysis.specs.Filling.{WasRead, Filled}
 use Rattle.analyser.specs.Analysed.{Tried, Analysed}
 use Rattle.memory.specs.declared.Analysis.{Analysis}
 use Rattle.analysis.proofs.Reading.{read-is, read-count}

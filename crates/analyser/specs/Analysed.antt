@@ -8,12 +8,12 @@ use Rattle.paper.specs.Limits.{limits}
 use Rattle.paper.specs.Answers.{NodesFull, CutsFull}
 use Rattle.records.specs.Judge.{Book, accept, refuse, outcome}
 use Rattle.rules.specs.Answers.{verdict}
-use Rattle.records.specs.Trees.{treeOf}
+use Rattle.records.specs.Trees.{treeOf, treeIn}
 use Rattle.rules.specs.declared.Answer.{Answer}
 use Rattle.records.specs.declared.Tree.{Tree}
 use Rattle.memory.specs.Memory.{Memory, Lengths, AllZero, capacity}
 use Rattle.memory.specs.Outcome.{Refused, at, Done}
-use Rattle.analysis.specs.Filling.{treeIn, Filled}
+use Rattle.analysis.specs.Filling.{Filled}
 use Rattle.memory.specs.declared.Analysis.{Analysis}
 
 -- the bytes, what was lent before and after, and the answer: the first rule that is broken, or done

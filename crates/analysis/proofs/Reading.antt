@@ -10,7 +10,7 @@ use Rattle.paper.specs.Trees.{TreeBelow}
 use Rattle.paper.specs.Flat.{gatesOf}
 use Rattle.records.specs.Judge.{Book}
 use Rattle.records.specs.Memory.{memory}
-use Rattle.records.specs.Trees.{Lawful, treeOf}
+use Rattle.records.specs.Trees.{Lawful, treeOf, treeIn}
 use Rattle.records.specs.declared.Event.{Event}
 use Rattle.records.specs.declared.Tree.{Tree}
 use Rattle.records.proofs.Pad.{pad-take}
@@ -22,7 +22,7 @@ use Rattle.build.specs.Finishing.{Areas, Whole, TooMany}
 use Rattle.memory.specs.Memory.{Memory, Lengths}
 use Rattle.memory.proofs.Before.{SameLengths, lengths-from}
 use Rattle.analysis.specs.Completing.{Sound}
-use Rattle.analysis.specs.Filling.{treeIn, WasRead}
+use Rattle.analysis.specs.Filling.{WasRead}
 
 read-gates : (b : Book) → Lawful limits b → treeIn (memory b) .gates ≡ treeOf b .gates
 unfolding treeIn memory

@@ -5,7 +5,8 @@ use records::Tree;
 use store::Built;
 ghost use Rattle.memory.specs.Memory.{memory, Lengths};
 ghost use Rattle.analysis.specs.Completing.{Grounded, FillsCuts};
-ghost use Rattle.analysis.specs.Filling.{treeIn, WasRead, Filled};
+ghost use Rattle.records.specs.Trees.{treeIn};
+ghost use Rattle.analysis.specs.Filling.{WasRead, Filled};
 
 // The cut table over a finished node table. Where the cuts do not fit all becomes zero; otherwise the memo and the work areas do.
 fn fill_cuts(

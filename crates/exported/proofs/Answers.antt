@@ -1,4 +1,4 @@
--- From an answer of the product to the numbers in the answer's array.
+-- From an answer of the product to the numbers in the answer's array, and to the arrays of a tree.
 -- Assumes nothing.
 use mathlib.Core.Path.{_≡_, refl, sym, ap, _∙_}
 use mathlib.Core.Bool.{Bool, true, false, cond}
@@ -8,40 +8,48 @@ use mir.Val.{boolByte}
 use borrow.Author.Tests.{eq-eqb, ne-eqb}
 use Rattle.paper.specs.Limits.{limits}
 use Rattle.rules.specs.Answers.{verdict}
-use Rattle.writing.specs.Writes.{Wrote, wrote, writeOf}
+use Rattle.writing.specs.Writes.{Wrote, wrote}
 use Rattle.records.specs.Judge.{outcome}
 use Rattle.records.specs.Memory.{inMemory}
 use Rattle.rules.specs.declared.Answer.{Answer}
 use Rattle.records.specs.declared.Event.{Event}
 use Rattle.records.specs.declared.Reading.{Reading}
+use Rattle.records.specs.declared.Tree.{Tree}
 use Rattle.arrays.specs.Chances.{chancesOf, eventsOf}
-use Rattle.exported.specs.Arrays.{Arrays, arrays, arraysOf, treeFrom, after}
+use Rattle.exported.specs.Arrays.{Arrays, arrays, arraysOf, treeFrom, filled, after}
 use Rattle.exported.specs.Numbers.{ofReading, ofWriting}
+
+-- ---- the arrays of a tree
+
+module _ (n : ℕ) (t : Tree) where
+  pub put-there : n ≡ 0 → {C : List ℕ} → C ≡ chancesOf (t .events) → (A : Arrays) → arrays C (t .kinds) (t .leasts) (t .sizes) (t .inputs) ≡ filled n t A
+  put-there z k A =
+      ap (λ c. arrays c (t .kinds) (t .leasts) (t .sizes) (t .inputs)) k
+      ∙ sym (ap (λ b. cond b (arraysOf t) A) (eq-eqb n 0 z))
+
+  pub kept-there : (n ≡ 0 → ⊥) → (A : Arrays) → A ≡ filled n t A
+  kept-there h A = sym (ap (λ b. cond b (arraysOf t) A) (ne-eqb n 0 h))
+
+pub taken-from : (events gates : ℕ) (C K L N I : List ℕ) {E : List Event} → E ≡ eventsOf C
+    → record { events = E; «event_count» = events; kinds = K; leasts = L; sizes = N; «gate_count» = gates; inputs = I } ≡ treeFrom events gates (arrays C K L N I)
+taken-from events gates C K L N I e = ap (λ E. record { events = E; «event_count» = events; kinds = K; leasts = L; sizes = N; «gate_count» = gates; inputs = I }) e
+
+-- ---- numbers
 
 module _ (bytes : List ℕ) {r : Reading} (e : r ≡ inMemory (outcome limits bytes)) {n : ℕ} (q : n ≡ verdict (r .answer) .number) where
   pub read-numbers : {p : ℕ} → p ≡ verdict (r .answer) .place
       → n ∷ p ∷ r .tree .«event_count» ∷ r .tree .«gate_count» ∷ [] ≡ ofReading (inMemory (outcome limits bytes))
   read-numbers s = rw (q, s) (ap ofReading e)
 
-  pub read-arrays : n ≡ 0 → {C : List ℕ} → C ≡ chancesOf (r .tree .events) → (A : Arrays)
-      → arrays C (r .tree .kinds) (r .tree .leasts) (r .tree .sizes) (r .tree .inputs) ≡ after (inMemory (outcome limits bytes)) A
-  read-arrays z k A =
-      ap (λ c. arrays c (r .tree .kinds) (r .tree .leasts) (r .tree .sizes) (r .tree .inputs)) k
-      ∙ sym (ap (λ t. cond t (arraysOf (r .tree)) A) (eq-eqb (verdict (r .answer) .number) 0 (sym q ∙ z)))
-      ∙ ap (λ x. after x A) e
+  pub read-arrays : (A : Arrays) {A′ : Arrays} → A′ ≡ filled n (r .tree) A → A′ ≡ after (inMemory (outcome limits bytes)) A
+  read-arrays A f = f ∙ ap (λ m. filled m (r .tree) A) q ∙ ap (λ x. after x A) e
 
-  pub kept-arrays : (n ≡ 0 → ⊥) → (A : Arrays) → A ≡ after (inMemory (outcome limits bytes)) A
-  kept-arrays h A = sym (ap (λ t. cond t (arraysOf (r .tree)) A) (ne-eqb (verdict (r .answer) .number) 0 (λ z. h (q ∙ z)))) ∙ ap (λ x. after x A) e
-
-module _ (events gates : ℕ) {E : List Event} (C K L N I room : List ℕ) {room′ : List ℕ} {a : Answer} {k : ℕ} (e : E ≡ eventsOf C)
-    (w : wrote a k room′ ≡ writeOf limits (record { events = E; «event_count» = events; kinds = K; leasts = L; sizes = N; «gate_count» = gates; inputs = I }) room) where
-  same : wrote a k room′ ≡ writeOf limits (treeFrom events gates (arrays C K L N I)) room
-  same = w ∙ ap (λ E. writeOf limits (record { events = E; «event_count» = events; kinds = K; leasts = L; sizes = N; «gate_count» = gates; inputs = I }) room) e
-
-  pub written : {n p : ℕ} → n ≡ verdict a .number → p ≡ verdict a .place
-      → (n ∷ p ∷ k ∷ [] ≡ ofWriting (writeOf limits (treeFrom events gates (arrays C K L N I)) room))
-      × (room′ ≡ writeOf limits (treeFrom events gates (arrays C K L N I)) room .room)
-  written q s = (rw (q, s) (ap ofWriting same), ap (λ (x : Wrote). x .room) same)
+-- of a tree that is written, in either form
+pub written : (f : Tree → List ℕ → Wrote) (room : List ℕ) {t u : Tree} → t ≡ u → {a : Answer} {k : ℕ} {room′ : List ℕ} → wrote a k room′ ≡ f t room
+    → {n p : ℕ} → n ≡ verdict a .number → p ≡ verdict a .place → (n ∷ p ∷ k ∷ [] ≡ ofWriting (f u room)) × (room′ ≡ f u room .room)
+written f room e w q s =
+    let same = w ∙ ap (λ t. f t room) e in
+    (rw (q, s) (ap ofWriting same), ap (λ (x : Wrote). x .room) same)
 
 -- a flag as a number
 flag : (b : Bool) → boolByte b ≡ cond b 1 0

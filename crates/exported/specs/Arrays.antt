@@ -33,6 +33,9 @@ treeFrom events gates a = record {
   inputs = a .inputs;
 }
 
--- what the arrays hold after a reading: the tree where the number is 0, else what they held
+-- what the arrays hold after an answer of this number: its tree where the number is 0, else what they held
+abbrev pub filled : ℕ → Tree → Arrays → Arrays
+filled number t before = cond (eqb number 0) (arraysOf t) before
+
 abbrev pub after : Reading → Arrays → Arrays
-after r before = cond (eqb (verdict (r .answer) .number) 0) (arraysOf (r .tree)) before
+after r before = filled (verdict (r .answer) .number) (r .tree) before

@@ -10,6 +10,7 @@ use Rattle.records.specs.declared.Reading.{Reading}
 use Rattle.listing.specs.declared.Listed.{Listed}
 use Rattle.bracket.specs.declared.Ends.{Ends}
 use Rattle.memory.specs.declared.Analysis.{Analysis}
+use Rattle.equations.specs.declared.Imported.{Imported}
 
 abbrev pub ofReading : Reading → List ℕ
 ofReading r = verdict (r .answer) .number ∷ verdict (r .answer) .place ∷ r .tree .«event_count» ∷ r .tree .«gate_count» ∷ []
@@ -25,3 +26,6 @@ ofListing l = l .number ∷ l .place ∷ l .count ∷ l .used ∷ cond (l .finis
 
 abbrev pub ofBracket : Ends → List ℕ
 ofBracket e = e .number ∷ e .place ∷ e .low ∷ e .high ∷ []
+
+abbrev pub ofImport : Imported → List ℕ
+ofImport a = a .number ∷ a .place ∷ a .line ∷ a .ring ∷ a .tree .«event_count» ∷ a .tree .«gate_count» ∷ []

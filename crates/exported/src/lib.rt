@@ -17,8 +17,63 @@ ghost use Rattle.bracket.specs.declared.Ends.{Ends};
 ghost use Rattle.memory.specs.Memory.{memory};
 ghost use Rattle.analyser.specs.Analysed.{Analysed};
 ghost use Rattle.memory.specs.declared.Analysis.{Analysis};
-ghost use Rattle.exported.specs.Arrays.{arrays, treeFrom, after};
-ghost use Rattle.exported.specs.Numbers.{ofReading, ofWriting, ofAnalysis, ofListing, ofBracket};
+ghost use Rattle.exporting.specs.Exports.{exportOf};
+ghost use Rattle.equations.specs.Lists.{lists};
+ghost use Rattle.equations.specs.Contract.{Imports};
+ghost use Rattle.equations.specs.declared.Imported.{Imported};
+ghost use Rattle.exported.specs.Arrays.{arrays, treeFrom, filled, after};
+ghost use Rattle.exported.specs.Numbers.{ofReading, ofWriting, ofAnalysis, ofListing, ofBracket, ofImport};
+
+// Puts a tree into five arrays where the number is 0.
+fn fill(
+    number: u8,
+    t: Tree,
+    chances: &mut [u32; EVENTS],
+    kinds: &mut [u8; GATES],
+    leasts: &mut [u8; GATES],
+    sizes: &mut [u8; GATES],
+    inputs: &mut [u16; IN_ALL],
+)
+    ensures { λ _. ⌜ arrays (now (chances .exit)) (now (kinds .exit)) (now (leasts .exit)) (now (sizes .exit)) (now (inputs .exit)) ≡ filled number t (arrays (now (chances .entry)) (now (kinds .entry)) (now (leasts .entry)) (now (sizes .entry)) (now (inputs .entry))) ⌝ }
+{
+    if number == 0 {
+        let events = t.events;
+        let cs = chances_of(events);
+        let ks = t.kinds;
+        let ls = t.leasts;
+        let ns = t.sizes;
+        let is = t.inputs;
+        *chances = cs;
+        *kinds = ks;
+        *leasts = ls;
+        *sizes = ns;
+        *inputs = is;
+    }
+}
+
+// The tree that is its two counts and five arrays.
+fn tree_from(
+    events: usize,
+    gates: usize,
+    chances: &[u32; EVENTS],
+    kinds: &[u8; GATES],
+    leasts: &[u8; GATES],
+    sizes: &[u8; GATES],
+    inputs: &[u16; IN_ALL],
+) -> Tree
+    ensures { λ r. ⌜ r ≡ treeFrom events gates (arrays (now (chances .entry)) (now (kinds .entry)) (now (leasts .entry)) (now (sizes .entry)) (now (inputs .entry))) ⌝ }
+{
+    let all = events_of(chances);
+    Tree {
+        events: all,
+        event_count: events,
+        kinds: *kinds,
+        leasts: *leasts,
+        sizes: *sizes,
+        gate_count: gates,
+        inputs: *inputs,
+    }
+}
 
 // Reads a tree into five arrays. The answer: number, place, events, gates. A refusal leaves the arrays as they are.
 #[no_mangle]
@@ -45,19 +100,7 @@ pub extern "C" fn matticklet_read(
         t.event_count as u64,
         t.gate_count as u64,
     ];
-    if number == 0 {
-        let events = t.events;
-        let cs = chances_of(events);
-        let ks = t.kinds;
-        let ls = t.leasts;
-        let ns = t.sizes;
-        let is = t.inputs;
-        *chances = cs;
-        *kinds = ks;
-        *leasts = ls;
-        *sizes = ns;
-        *inputs = is;
-    }
+    fill(number, t, chances, kinds, leasts, sizes, inputs);
 }
 
 // Writes the bytes of the tree in five arrays to the front of room. The answer: number, place, bytes.
@@ -76,16 +119,7 @@ pub extern "C" fn matticklet_write(
     ensures { λ _. ⌜ now (answer .exit) ≡ ofWriting (writeOf limits (treeFrom events gates (arrays (now (chances .entry)) (now (kinds .entry)) (now (leasts .entry)) (now (sizes .entry)) (now (inputs .entry)))) (now (room .entry))) ⌝ }
     ensures { λ _. ⌜ now (room .exit) ≡ writeOf limits (treeFrom events gates (arrays (now (chances .entry)) (now (kinds .entry)) (now (leasts .entry)) (now (sizes .entry)) (now (inputs .entry)))) (now (room .entry)) .room ⌝ }
 {
-    let all = events_of(chances);
-    let tree = Tree {
-        events: all,
-        event_count: events,
-        kinds: *kinds,
-        leasts: *leasts,
-        sizes: *sizes,
-        gate_count: gates,
-        inputs: *inputs,
-    };
+    let tree = tree_from(events, gates, chances, kinds, leasts, sizes, inputs);
     let w = analyser::write(tree, room);
     let a = w.answer;
     *answer = [
@@ -168,4 +202,80 @@ pub extern "C" fn matticklet_bracket(
 {
     let r = analyser::bracket(nodes, events, count, root, chances, lows, highs);
     *answer = [r.number as u64, r.place as u64, r.low, r.high];
+}
+
+// Reads typed equations into five arrays. The answer: number, place, line, ring, events, gates. A refusal leaves the arrays as they are.
+#[no_mangle]
+pub extern "C" fn matticklet_import(
+    text: &[u8],
+    heads: &mut [u32],
+    next: &mut [u32],
+    names: &mut [u32],
+    defs: &mut [u32],
+    marks: &mut [u32],
+    amounts: &mut [u32],
+    starts: &mut [u32],
+    rights: &mut [u32],
+    order: &mut [u32],
+    ring: &mut [u32],
+    shown: &mut [u32],
+    answer: &mut [u64; 6],
+    chances: &mut [u32; EVENTS],
+    kinds: &mut [u8; GATES],
+    leasts: &mut [u8; GATES],
+    sizes: &mut [u8; GATES],
+    inputs: &mut [u16; IN_ALL],
+)
+    ensures { λ _. ⌜ ((a : Imported) × (Imports (now (text .entry)) (lists (now (heads .entry)) (now (next .entry)) (now (names .entry)) (now (defs .entry)) (now (marks .entry)) (now (amounts .entry)) (now (starts .entry)) (now (rights .entry)) (now (order .entry)) (now (ring .entry)) (now (shown .entry))) (lists (now (heads .exit)) (now (next .exit)) (now (names .exit)) (now (defs .exit)) (now (marks .exit)) (now (amounts .exit)) (now (starts .exit)) (now (rights .exit)) (now (order .exit)) (now (ring .exit)) (now (shown .exit))) a × ((now (answer .exit) ≡ ofImport a) × (arrays (now (chances .exit)) (now (kinds .exit)) (now (leasts .exit)) (now (sizes .exit)) (now (inputs .exit)) ≡ filled (a .number) (a .tree) (arrays (now (chances .entry)) (now (kinds .entry)) (now (leasts .entry)) (now (sizes .entry)) (now (inputs .entry))))))) ⌝ }
+{
+    let a = equations::import(
+        text,
+        heads,
+        next,
+        names,
+        defs,
+        marks,
+        amounts,
+        starts,
+        rights,
+        order,
+        ring,
+        shown,
+    );
+    let t = a.tree;
+    *answer = [
+        a.number as u64,
+        a.place as u64,
+        a.line as u64,
+        a.ring as u64,
+        t.event_count as u64,
+        t.gate_count as u64,
+    ];
+    fill(a.number, t, chances, kinds, leasts, sizes, inputs);
+}
+
+// Types the tree in five arrays to the front of room. The answer: number, place, bytes.
+#[no_mangle]
+pub extern "C" fn matticklet_export(
+    events: usize,
+    gates: usize,
+    chances: &[u32; EVENTS],
+    kinds: &[u8; GATES],
+    leasts: &[u8; GATES],
+    sizes: &[u8; GATES],
+    inputs: &[u16; IN_ALL],
+    room: &mut [u8],
+    answer: &mut [u64; 3],
+)
+    ensures { λ _. ⌜ now (answer .exit) ≡ ofWriting (exportOf limits (treeFrom events gates (arrays (now (chances .entry)) (now (kinds .entry)) (now (leasts .entry)) (now (sizes .entry)) (now (inputs .entry)))) (now (room .entry))) ⌝ }
+    ensures { λ _. ⌜ now (room .exit) ≡ exportOf limits (treeFrom events gates (arrays (now (chances .entry)) (now (kinds .entry)) (now (leasts .entry)) (now (sizes .entry)) (now (inputs .entry)))) (now (room .entry)) .room ⌝ }
+{
+    let tree = tree_from(events, gates, chances, kinds, leasts, sizes, inputs);
+    let w = equations::export(tree, room);
+    let a = w.answer;
+    *answer = [
+        rules::number(a) as u64,
+        rules::place(a) as u64,
+        w.bytes as u64,
+    ];
 }

@@ -13,4 +13,15 @@ pub mod Order
 pub mod Listing
 pub mod Chance
 pub mod Answers
+pub mod Bytes
+pub mod Grammar
+pub mod Texts
+pub mod Equations
+pub mod Walks
+pub mod Meaning
+pub mod Importing
+pub mod Spelling
+pub mod Exporting
+pub mod Spots
 pub mod Cases
+pub mod TextCases

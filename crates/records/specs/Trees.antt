@@ -1,4 +1,4 @@
--- The tree that was read, as the paper has it.
+-- The tree that was read, and the one that arrays hold, as the paper has them.
 use mathlib.Core.Path.{_≡_}
 use mathlib.Core.Bool.{true}
 use Prim.Native.Nat.{ℕ, _+_, _≤_, _<_}
@@ -13,11 +13,19 @@ use Rattle.records.specs.Uses.{among}
 use Rattle.records.specs.Judge.{Book}
 use Rattle.records.specs.Memory.{noEvent}
 use Rattle.records.specs.declared.Event.{Event}
+use Rattle.records.specs.declared.Tree as held
 
 unfoldable pub treeOf : Book → Tree
 treeOf b = record {
   chances = map (λ (e : Event). e .chance) (b .events);
   gates = gatesOf (b .kinds) (b .leasts) 0 (b .sizes) (b .inputs);
+}
+
+-- the tree that an array holds
+unfoldable pub treeIn : held.Tree → Tree
+treeIn t = record {
+  chances = map (λ (e : Event). e .chance) (take (t .«event_count») (t .events));
+  gates = gatesOf (t .kinds) (t .leasts) 0 (take (t .«gate_count») (t .sizes)) (t .inputs);
 }
 
 -- what holds of every tree that is accepted. Gate g has the inputs from the sum of the sizes before it on.

@@ -1,4 +1,3 @@
--- Text put piece by piece, a number's digits, and the lines of a listing's bytes.
+-- Text put into an array, and the lines of a listing's bytes.
 pub mod Putting
-pub mod Decimals
 pub mod Spelling

@@ -1,101 +1,36 @@
--- Text put piece by piece.
+-- Text put from the beginning, and numbers put in decimal.
 -- Assumes nothing.
-use mathlib.Core.Path.{_≡_, sym, ap, ap₂, _∙_}
-use mathlib.Core.List.{List, [], _++_, append-assoc, append-nil}
-use Prim.Native.Nat.{ℕ, _+_, _≤_, _<_}
-use native.Mathlib.Numerals.{add-one}
+use mathlib.Core.Path.{_≡_, sym, subst}
+use mathlib.Core.List.{List, _++_}
+use Prim.Native.Nat.{ℕ, _+_, _-_, _≤_}
 use native.Mathlib.Omega.{arith}
-use lib.ListN.{length, getD, take, drop, set, length-append, length-drop, take-append-drop}
-use lib.Seq.{length-take-le, take-all, take-at, drop-append-add, drop-drop, paste, paste-zero, paste-suc, length-paste}
-use Rattle.text.specs.Places.{Put, Front}
+use lib.ListN.{length, take, drop, length-append}
+use lib.Seq.{length-take-le}
+use Rattle.paper.specs.Exporting.{decimal}
+use Rattle.decimals.specs.Places.{Put, Ends}
+use Rattle.decimals.proofs.Putting.{put-long, put-front, ends-part}
+use Rattle.decimals.proofs.Decimals.{decimal-long}
+use Rattle.text.specs.Lines.{lineEnd, lineOf}
+use Rattle.text.specs.Places.{Front}
 
--- ---- a copy in a loop
+pub put-counts : {text : List ℕ} {at : ℕ} {s text′ : List ℕ} {end : ℕ} → Put text at s text′ end → at ≡ 0 → Front end text′ s
+put-counts {text′ = text′} {end} p z =
+    let l = put-long p in
+    let i = p .inside in
+    let h : end ≤ length text′ = omega arith in
+    ((h, sym (length-take-le end text′ h)), put-front p z)
 
--- the first i bytes of s are copied
-pub record Copied (text : List ℕ) (at : ℕ) (s text′ : List ℕ) (i : ℕ) : Type 0 where
-  pub fits : at + length s ≤ length text
-  pub low : i ≤ length s
-  pub is : text′ ≡ paste text at s i
+pub put-same : {text : List ℕ} {at : ℕ} {s s′ text′ : List ℕ} {end : ℕ} → s′ ≡ s → Put text at s text′ end → Put text at s′ text′ end
+put-same {text} {at} {text′ = text′} {end} e p = subst (λ (x : List ℕ). Put text at x text′ end) (sym e) p
 
-pub copy-none : (text : List ℕ) (at : ℕ) (s : List ℕ) → at + length s ≤ length text → Copied text at s text 0
-copy-none text at s h = record { fits = h; low = omega arith; is = paste-zero text at s }
+-- the digits at the end of a row of 20, put into a text
+pub put-digits : {text : List ℕ} {at : ℕ} (n : ℕ) {row : List ℕ} {from : ℕ} {text′ : List ℕ} {end : ℕ}
+    → Ends from row (decimal n) → length row ≡ 20 → Put text at (take (20 - from) (drop from row)) text′ end → Put text at (decimal n) text′ end
+put-digits n d long p = put-same (sym (ends-part d long)) p
 
-module _ {text : List ℕ} {at : ℕ} {s text′ : List ℕ} {i : ℕ} (c : Copied text at s text′ i) where
-  pub copy-long : length text′ ≡ length text
-  copy-long = let f = c .fits in let l = c .low in ap length (c .is) ∙ length-paste text at s i (omega arith) l
-
-  pub copy-more : i < length s → Copied text at s (set text′ (at + i) (getD s i 0)) (i + 1)
-  copy-more h =
-      let f = c .fits in
-      record {
-        fits = f;
-        low = omega arith;
-        is = ap (λ (l : List ℕ). set l (at + i) (getD s i 0)) (c .is) ∙ paste-suc text at s i 0 (omega arith) h ∙ ap (paste text at s) (sym (add-one i));
-      }
-
-  pub copy-end : length s ≤ i → Put text at s text′ (at + i)
-  copy-end h =
-      let f = c .fits in
-      let l = c .low in
-      record {
-        inside = omega arith;
-        to = omega arith;
-        is = c .is ∙ ap (λ (x : List ℕ). take at text ++ x ++ drop (at + i) text) (take-all i s h);
-      }
-
--- ---- one piece after another
-
-pub put-none : (text : List ℕ) (at : ℕ) → at ≤ length text → Put text at [] text at
-put-none text at h = record { inside = h; to = omega arith; is = sym (ap (λ (x : List ℕ). x ++ drop at text) (append-nil (take at text)) ∙ take-append-drop at text) }
-
-module _ {text : List ℕ} {at : ℕ} {s text′ : List ℕ} {end : ℕ} (p : Put text at s text′ end) where
-  front-long : length (take at text ++ s) ≡ end
-  front-long =
-      let t = p .to in
-      let i = p .inside in
-      let l = length-take-le at text (omega arith) in
-      let a = length-append (take at text) s in
-      omega arith
-
-  pub put-long : length text′ ≡ length text
-  put-long =
-      let f = front-long in
-      let i = p .inside in
-      let d = length-drop end text in
-      let a = length-append (take at text ++ s) (drop end text) in
-      let e = ap length (p .is) in
-      omega arith
-
-  -- where the text is put from the beginning it stands at the front
-  put-front : at ≡ 0 → take end text′ ≡ s
-  put-front z =
-      ap (take end) (p .is) ∙ take-at (take at text ++ s) (drop end text) end front-long ∙ ap (λ (k : ℕ). take k text ++ s) z
-
-  pub put-counts : at ≡ 0 → Front end text′ s
-  put-counts z =
-      let l = put-long in
-      let i = p .inside in
-      let h : end ≤ length text′ = omega arith in
-      ((h, sym (length-take-le end text′ h)), put-front z)
-
-  pub put-then : {s′ text″ : List ℕ} {end′ : ℕ} → Put text′ end s′ text″ end′ → Put text at (s ++ s′) text″ end′
-  put-then {s′} {text″} {end′} q =
-      let t = p .to in
-      let u = q .to in
-      let l = put-long in
-      let i = q .inside in
-      let a = length-append s s′ in
-      let front : take end text′ ≡ take at text ++ s = ap (take end) (p .is) ∙ take-at (take at text ++ s) (drop end text) end front-long in
-      let far : end′ ≡ length (take at text ++ s) + length s′ = u ∙ ap (λ (k : ℕ). k + length s′) (sym front-long) in
-      let rest : drop end′ text′ ≡ drop end′ text =
-      ap₂ (λ (k : ℕ) (x : List ℕ). drop k x) far (p .is)
-      ∙ drop-append-add (take at text ++ s) (drop end text) (length s′)
-      ∙ drop-drop (length s′) end text
-      ∙ ap (λ (k : ℕ). drop k text) (sym u) in
-      record {
-        inside = omega arith;
-        to = omega arith;
-        is = q .is
-            ∙ ap₂ (λ (x y : List ℕ). x ++ s′ ++ y) front rest
-            ∙ ap (λ (x : List ℕ). x ++ drop end′ text) (append-assoc (take at text) s s′);
-      }
+pub line-long : (word : List ℕ) (n : ℕ) → length (lineOf word n) ≤ length word + 21
+line-long word n =
+    let d = decimal-long n in
+    let a = length-append (word ++ decimal n) lineEnd in
+    let b = length-append word (decimal n) in
+    omega arith

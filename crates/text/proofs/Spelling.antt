@@ -11,13 +11,16 @@ use lib.ListN.{length, getD, take, drop, drop-of-length-le}
 use lib.Seq.{slice-cons, length-take-le}
 use borrow.Author.Tests.{eq-eqb, ne-eqb}
 use Rattle.paper.specs.Sets.{Set, members}
+use Rattle.paper.specs.Exporting.{decimal}
 use Rattle.paper.specs.Listing.{memberBytes, cutBytes, setsBytes}
-use Rattle.text.specs.Lines.{decimal, blank, lineEnd, behind, cutLine, cutLines}
-use Rattle.text.specs.Places.{Put, Front, said, after, spelled}
+use Rattle.text.specs.Lines.{blank, lineEnd, behind, cutLine, cutLines}
+use Rattle.text.specs.Places.{Front, said, after, spelled}
 use Rattle.text.specs.declared.cuts.Place.{Place}
 use Rattle.text.specs.declared.cuts.Place.the-variants.{Start, Event, Behind}
-use Rattle.text.proofs.Putting.{put-none, put-then, put-counts}
-use Rattle.text.proofs.Decimals.{byte-long}
+use Rattle.decimals.specs.Places.{Put}
+use Rattle.decimals.proofs.Putting.{put-none, put-then}
+use Rattle.decimals.proofs.Decimals.{byte-long}
+use Rattle.text.proofs.Putting.{put-counts}
 
 -- ---- one byte
 
@@ -55,9 +58,6 @@ module _ {p : Place} (b : ℕ) where
 
   pub member : p ≡ Event → said p b ≡ decimal b
   member e = rw e refl
-
-pub put-same : {text : List ℕ} {at : ℕ} {s s′ text′ : List ℕ} {end : ℕ} → s′ ≡ s → Put text at s text′ end → Put text at s′ text′ end
-put-same {text} {at} {text′ = text′} {end} e p = subst (λ (x : List ℕ). Put text at x text′ end) (sym e) p
 
 -- ---- the loop
 

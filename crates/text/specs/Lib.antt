@@ -1,3 +1,3 @@
--- Numbers in decimal, the program's lines, and text put into a lent array.
+-- The program's lines, and text at the front of a lent array.
 pub mod Lines
 pub mod Places

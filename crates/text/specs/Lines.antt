@@ -1,20 +1,10 @@
 -- THE PROGRAM'S LINES as bytes of text.
 -- Assumes nothing.
-use mathlib.Core.Bool.{cond}
 use mathlib.Core.List.{List, [], _∷_, _++_}
-use Prim.Native.Nat.{ℕ, zero, suc, _+_, _/_, _%_}
-use lib.Dec.{ltb}
+use Prim.Native.Nat.{ℕ}
 use Rattle.paper.specs.Lists.{flat}
 use Rattle.paper.specs.Sets.{Set, members}
-
--- the digits of n, the most significant first; no number has more than k
-abbrev pub digitsOf : ℕ → ℕ → List ℕ
-digitsOf zero n = []
-digitsOf (suc k) n = cond (ltb n 10) ((48 + n) ∷ []) (digitsOf k (n / 10) ++ ((48 + n % 10) ∷ []))
-
--- a number of 64 bits has at most 20 digits
-unfoldable pub decimal : ℕ → List ℕ
-decimal n = digitsOf 20 n
+use Rattle.paper.specs.Exporting.{decimal}
 
 abbrev pub blank : List ℕ
 blank = 32 ∷ []

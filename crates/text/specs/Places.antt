@@ -1,21 +1,16 @@
--- Text put into a lent array, and the text of a listing's bytes.
+-- Text at the front of a lent array, and the text of a listing's bytes.
 -- Assumes nothing.
 use mathlib.Core.Path.{_≡_}
 use mathlib.Core.Bool.{cond}
 use mathlib.Core.List.{List, [], _∷_, _++_}
-use Prim.Native.Nat.{ℕ, _+_, _≤_}
+use Prim.Native.Nat.{ℕ}
 use lib.Dec.{eqb}
-use lib.ListN.{length, take, drop}
+use lib.ListN.{take}
+use Rattle.paper.specs.Exporting.{decimal}
 use Rattle.io.specs.Counts.{Counts}
-use Rattle.text.specs.Lines.{decimal, blank, lineEnd}
+use Rattle.text.specs.Lines.{blank, lineEnd}
 use Rattle.text.specs.declared.cuts.Place.{Place}
 use Rattle.text.specs.declared.cuts.Place.the-variants.{Start, Event, Behind}
-
--- s stands behind the first `at` bytes of a text, up to the place `end`; the rest is as it was
-pub record Put (text : List ℕ) (at : ℕ) (s text′ : List ℕ) (end : ℕ) : Type 0 where
-  pub inside : end ≤ length text
-  pub to : end ≡ at + length s
-  pub is : text′ ≡ take at text ++ s ++ drop end text
 
 -- the first r bytes of a text are s
 abbrev pub Front : ℕ → List ℕ → List ℕ → Type 0

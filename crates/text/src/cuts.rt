@@ -1,10 +1,11 @@
 // The lines of the cuts, from the bytes of a listing.
-use crate::put;
 use crate::put_number;
+use decimals::put;
 ghost use mathlib.Core.Path.{_≡_};
 ghost use Prim.Native.Nat.{_+_, _*_, _≤_};
 ghost use lib.ListN.{length, take};
-ghost use Rattle.text.specs.Places.{Put, Front, said, after, spelled};
+ghost use Rattle.text.specs.Places.{Front, said, after, spelled};
+ghost use Rattle.decimals.specs.Places.{Put};
 ghost use Rattle.text.specs.declared.cuts.Place.the-variants.{Start};
 
 // Where a byte stands: at the start of a cut, behind kind 21, or behind a member.

@@ -1,39 +1,28 @@
 // The program's lines: words and numbers, put into an array that the caller lends.
 pub mod cuts; // cuts.rt: the lines of the cuts
 
+use decimals::DIGITS;
+use decimals::digits;
+use decimals::put;
 ghost use Prim.Native.Nat.{_+_, _≤_};
 ghost use lib.ListN.{length};
-ghost use Rattle.text.specs.Lines.{decimal as decimalText, lineOf, pairOf};
+ghost use Rattle.paper.specs.Exporting.{decimal as decimalText};
+ghost use Rattle.decimals.specs.Places.{Put};
+ghost use Rattle.text.specs.Lines.{lineOf, pairOf};
 ghost use Rattle.text.specs.Lines.{refusal as refusalText, head as headText, top as topText};
-ghost use Rattle.text.specs.Places.{Put, Front};
-
-// No number of 64 bits has more digits.
-pub const DIGITS: usize = 20;
+ghost use Rattle.text.specs.Places.{Front};
 
 // The head, a refusal and the top each fit into so many bytes.
 pub const ROOM: usize = 128;
-
-// Puts the bytes of `s` behind the first `at` bytes of the text: the place behind them.
-pub fn put(text: &mut [u8], at: usize, s: &[u8]) -> usize
-    requires { ⌜ at + length (now s) ≤ length (now text) ⌝ }
-    ensures { λ r. ⌜ Put (now (text .entry)) at (now (s .entry)) (now (text .exit)) r ⌝ }
-{
-    let mut i = 0;
-    while i < s.len() {
-        text[at + i] = s[i];
-        i += 1;
-    }
-    at + i
-}
 
 // Puts a number in decimal.
 pub fn put_number(text: &mut [u8], at: usize, n: u64) -> usize
     requires { ⌜ at + 20 ≤ length (now text) ⌝ }
     ensures { λ r. ⌜ Put (now (text .entry)) at (decimalText n) (now (text .exit)) r ⌝ }
 {
-    let mut digits = [0u8; DIGITS];
-    let k = io::decimal(n, &mut digits);
-    put(text, at, &digits[..k])
+    let mut row = [0u8; DIGITS];
+    let from = digits(n, &mut row);
+    put(text, at, &row[from..])
 }
 
 // Puts a word, a number and the line's end.

@@ -5,7 +5,7 @@ use lib.ListN.{length, drop}
 use lib.Dec.{ltb}
 use Rattle.paper.specs.Limits.{Limits}
 use Rattle.rules.specs.Choice.{if_then_else_}
-use Rattle.records.specs.Judge.{accept, refuse, outcome}
+use Rattle.records.specs.Judge.{Outcome, accept, refuse, outcome}
 use Rattle.judging.specs.Bytes.{bytesOf}
 use Rattle.rules.specs.declared.Answer.{Answer}
 use Rattle.rules.specs.declared.Answer.the-variants.{Done, Room}
@@ -20,12 +20,11 @@ pub record Wrote : Type 0 where
 abbrev pub wrote : Answer → ℕ → List ℕ → Wrote
 wrote a n room = record { answer = a; bytes = n; room = room }
 
--- as its bytes would be answered, then Room (9) if they do not fit; room behind them stays
+-- a text for a room, by the outcome of a tree's bytes: a refusal, then Room (9) if the text does not fit; room behind it stays
+abbrev pub laidOf : Outcome → List ℕ → List ℕ → Wrote
+laidOf (accept b) s room = if ltb (length room) (length s) then wrote Room 0 room else wrote Done (length s) (s ++ drop (length s) room)
+laidOf (refuse a) s room = wrote a 0 room
+
+-- as its bytes would be answered, then Room (9) if they do not fit
 unfoldable pub writeOf : Limits → Tree → List ℕ → Wrote
-writeOf L t room =
-    elim (outcome L (bytesOf t)) [
-      | accept b ↦
-          if ltb (length room) (length (bytesOf t)) then wrote Room 0 room else
-          wrote Done (length (bytesOf t)) (bytesOf t ++ drop (length (bytesOf t)) room)
-      | refuse a ↦ wrote a 0 room
-    ]
+writeOf L t room = laidOf (outcome L (bytesOf t)) (bytesOf t) room

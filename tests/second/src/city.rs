@@ -1,7 +1,8 @@
 //! Trees like a city's: corridors of stations with detectors, links and controllers, two clocks for all,
 //! and feeds shared by corridors that lie far apart. The sharing is what makes the diagram large.
 
-use crate::equations::{tree_of, Named};
+use crate::equations::tree_of;
+use crate::tree::Tree;
 use std::fmt::Write;
 
 #[derive(Clone, Copy, Debug)]
@@ -26,29 +27,30 @@ pub fn equations(city: City) -> String {
     let mut text = String::new();
     let corridors: Vec<String> = (0..city.corridors).map(|c| format!("corridor{c}")).collect();
     let mut line = |words: String| writeln!(text, "{words}").expect("a string takes all");
-    line(format!("city := @({}, [{}])", city.lost, corridors.join(",")));
-    line("clocks := (clockmain & clockspare)".into());
-    line("p(clockmain)=0.0001 p(clockspare)=0.0004".into());
+    line(format!("city = at-least {} in {}", city.lost, corridors.join(", ")));
+    line("clocks = clockmain and clockspare".into());
+    line("p clockmain 100000\np clockspare 400000".into());
     for feed in 0..city.feeds {
-        line(format!("p(feed{feed})=0.00{}", 1 + feed % 9));
+        line(format!("p feed{feed} {}000000", 1 + feed % 9));
     }
     for c in 0..city.corridors {
         let stations: Vec<String> = (0..city.stations).map(|s| format!("station{c}x{s}")).collect();
-        line(format!("corridor{c} := (controller{c} | blind{c} | clocks)"));
-        line(format!("blind{c} := @({}, [{}])", city.blind, stations.join(",")));
-        line(format!("p(controller{c})=0.00{}", 1 + c % 7));
+        line(format!("corridor{c} = controller{c} or blind{c} or clocks"));
+        line(format!("blind{c} = at-least {} in {}", city.blind, stations.join(", ")));
+        line(format!("p controller{c} {}000000", 1 + c % 7));
         let (first, second) = (c % city.feeds, (c + city.apart) % city.feeds);
-        line(format!("power{c} := (feed{first} & feed{second})"));
+        line(format!("power{c} = feed{first} and feed{second}"));
         for s in 0..city.stations {
             // Every second station has a feed of its own kind: one of the two alone.
             let power = if s % 2 == 0 { format!("power{c}") } else { format!("feed{}", [first, second][s / 2 % 2]) };
-            line(format!("station{c}x{s} := (detector{c}x{s} | {power} | link{c}x{s})"));
-            line(format!("p(detector{c}x{s})=0.0{} p(link{c}x{s})=0.00{}", 1 + (c + s) % 9, 1 + (c * s) % 9));
+            line(format!("station{c}x{s} = detector{c}x{s} or {power} or link{c}x{s}"));
+            line(format!("p detector{c}x{s} {}0000000", 1 + (c + s) % 9));
+            line(format!("p link{c}x{s} {}000000", 1 + (c * s) % 9));
         }
     }
     text
 }
 
-pub fn city(city: City) -> Named {
-    tree_of(&equations(city)).expect("a city is well formed")
+pub fn city(city: City) -> Tree {
+    tree_of(&equations(city))
 }

@@ -1,6 +1,7 @@
 //! One seeded input after another: a library's answers and its lent memory against the second program.
 
 use crate::analysis::{analyse, Analysis, Lengths};
+use crate::compare_equations::{compare_texts, compare_trees};
 use crate::compare_lent::{compare_bracket, compare_list};
 use crate::damage::{damaged, tree_in_memory};
 use crate::diagrams;
@@ -20,7 +21,7 @@ const MOST_NODES: usize = 6_000;
 pub fn compare_input(library: &dyn Library, seed: u64, tally: &mut Tally) {
     let random = &mut Random::new(seed);
     tally.begin(seed);
-    match seed % 16 {
+    match seed % 20 {
         0 => compare_reading(library, &generator::bytes(random), random, tally),
         1..=3 => {
             let number = random.between(1, 8) as u32;
@@ -44,8 +45,8 @@ pub fn compare_input(library: &dyn Library, seed: u64, tally: &mut Tally) {
             };
             compare_tree(library, &generator::tree(random, shape), random, tally);
         }
-        sort => {
-            let sort = if sort % 2 == 0 { Sort::Function } else { Sort::Cuts };
+        12..=15 => {
+            let sort = if seed % 2 == 0 { Sort::Function } else { Sort::Cuts };
             let nodes = if random.once_in(50) { 400 } else { random.of(&[3, 12, 40]) };
             let diagram = match random.once_in(3) {
                 true => diagrams::damaged(random, sort, nodes),
@@ -53,6 +54,8 @@ pub fn compare_input(library: &dyn Library, seed: u64, tally: &mut Tally) {
             };
             compare_diagram(library, &diagram, random, tally);
         }
+        16..=18 => compare_texts(library, random, tally),
+        _ => compare_trees(library, random, tally),
     }
 }
 
@@ -96,31 +99,41 @@ pub fn compare_reading(library: &dyn Library, bytes: &[u8], random: &mut Random,
     }
 }
 
-/// Rooms one short, exact, longer and empty.
 pub fn compare_writing(library: &dyn Library, tree: &Tree, random: &mut Random, tally: &mut Tally) {
     if tally.input.is_empty() {
         tally.note(|| format!("{tree:?}"));
     }
-    let written = write(tree);
+    compare_rooms("write", write(tree), &|room| library.write(tree, room), library, random, tally);
+}
+
+/// A call that writes a tree: rooms one short, exact, longer and empty.
+pub fn compare_rooms(
+    call: &'static str,
+    written: Result<Vec<u8>, Refusal>,
+    make: &dyn Fn(&mut [u8]) -> WriteAnswer,
+    library: &dyn Library,
+    random: &mut Random,
+    tally: &mut Tally,
+) {
     let length = written.as_ref().map_or(20, Vec::len);
     for room_length in [length, length - 1, length + random.below(40), random.below(length)] {
         let mut room = Guarded::new((0..room_length).map(|_| random.byte()).collect(), 0xA5);
-        let got = library.write(tree, room.lend());
+        let got = make(room.lend());
         no_fault(library, tally);
         let expected = match &written {
             Err(Refusal { number, place }) => WriteAnswer { number: *number, place: *place, used: 0 },
             Ok(_) if room_length < length => WriteAnswer { number: 9, place: 0, used: 0 },
             Ok(_) => WriteAnswer { number: 0, place: 0, used: length as u64 },
         };
-        tally.due("write", expected.number);
-        tally.same("writing", expected, got);
-        tally.holds("guards of a written tree", room.guards_stand());
+        tally.due(call, expected.number);
+        tally.same(call, expected, got);
+        tally.holds("guards of a room", room.guards_stand());
         match &written {
             Ok(bytes) if expected.number == 0 => {
                 let whole = [&bytes[..], &room.before()[length..]].concat();
                 tally.holds("bytes of a written tree", room.now() == whole);
             }
-            _ => tally.holds("refused writing changes nothing", room.unchanged()),
+            _ => tally.holds("a refusal leaves the room", room.unchanged()),
         }
     }
 }
@@ -186,7 +199,7 @@ fn exactly(done: &Analysis, lengths: Lengths) -> bool {
 }
 
 /// What lent memory holds at entry: anything, small numbers among it that could pass for nodes.
-fn dirty(random: &mut Random, length: usize) -> Guarded<u32> {
+pub fn dirty(random: &mut Random, length: usize) -> Guarded<u32> {
     let small = random.below(3);
     let contents = (0..length).map(|_| match small {
         0 => random.below(8) as u32,

@@ -3,28 +3,31 @@
 use crate::analysis::{analyse, Lengths};
 use crate::city::{self, city};
 use crate::compare::{compare_analysis_in, compare_diagram, compare_reading};
+use crate::compare_equations::{compare_export, compare_import};
 use crate::compare_lent::one_listing;
 use crate::diagrams;
-use crate::european::european_1;
+use crate::european::{self, european_1};
 use crate::generator::longest_run;
 use crate::judge::write;
 use crate::lent::{Lent, Sort, MOST_NUMBERS};
 use crate::library::*;
 use crate::random::Random;
 use crate::tally::Tally;
+use crate::texts::{chain, upside_down, wide};
 use crate::tree::*;
 
 pub fn compare_large(library: &dyn Library, tally: &mut Tally) {
     let random = &mut Random::new(0);
     tally.detailed = true;
     compare_named(library, "European 1", &european_1(), random, tally);
-    compare_named(library, "a small city", &city(city::SMALL).tree, random, tally);
-    compare_named(library, "a middle city", &city(city::MIDDLE).tree, random, tally);
-    compare_named(library, "a large city", &city(city::LARGE).tree, random, tally);
+    compare_named(library, "a small city", &city(city::SMALL), random, tally);
+    compare_named(library, "a middle city", &city(city::MIDDLE), random, tally);
+    compare_named(library, "a large city", &city(city::LARGE), random, tally);
     compare_longest_bytes(library, random, tally);
     compare_longest_tables(library, random, tally);
     // These are too long to be told.
     tally.detailed = false;
+    compare_long_texts(library, random, tally);
     compare_largest_diagrams(library, random, tally);
     tally.name = None;
 }
@@ -108,5 +111,30 @@ fn compare_largest_diagrams(library: &dyn Library, random: &mut Random, tally: &
                 compare_diagram(library, &spoilt, random, tally);
             }
         }
+    }
+}
+
+/// The named trees typed and exported, and texts of 100,000 equations: deep, in a ring, and wide.
+fn compare_long_texts(library: &dyn Library, random: &mut Random, tally: &mut Tally) {
+    const MANY: usize = 100_000;
+    tally.name = Some("typed trees");
+    for text in [european::EQUATIONS, &city::equations(city::LARGE), &chain(MOST_GATES, false), &wide(64)] {
+        let import = compare_import(library, text.as_bytes(), random, tally);
+        tally.same("a typed tree", 0, import.number);
+        compare_export(library, &import.tree, random, tally);
+    }
+    tally.name = Some("texts of 100,000 equations");
+    let (deep, ring) = (chain(MANY, false), chain(MANY, true));
+    for (text, number) in [
+        (upside_down(&deep), 4),
+        (format!("{deep}p e0 1000000001\n"), 7),
+        (format!("{deep}a = b\n"), 18),
+        (format!("a = b\n{ring}"), 17),
+        (format!("{ring}g7 = b\n"), 16),
+        (format!("{ring}p g7 5\n"), 15),
+        (wide(MANY), 4),
+    ] {
+        let import = compare_import(library, text.as_bytes(), random, tally);
+        tally.same("a text of many lines", number, import.number);
     }
 }

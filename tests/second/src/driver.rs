@@ -1,5 +1,6 @@
 //! The linked library, behind the process of `tests/driver`: a call is a request over one pipe and an answer over another.
 
+use crate::equations::LISTS;
 use crate::lent::Lent;
 use crate::library::*;
 use crate::sets::Set;
@@ -13,6 +14,8 @@ const WRITE: u64 = 2;
 const ANALYSE: u64 = 3;
 const LIST: u64 = 4;
 const BRACKET: u64 = 5;
+const IMPORT: u64 = 6;
+const EXPORT: u64 = 7;
 
 /// What the driver says of a call when every guard and every constant area stands.
 const ALL_STANDS: u64 = 3;
@@ -78,6 +81,11 @@ fn word(bytes: &[u8]) -> u64 {
     u64::from_le_bytes(bytes.try_into().expect("a word has 8 bytes"))
 }
 
+/// Dirt that goes with these bytes.
+fn seed(bytes: &[u8]) -> u64 {
+    bytes.iter().fold(0u64, |seed, &byte| seed.wrapping_mul(31).wrapping_add(byte as u64))
+}
+
 /// A number of an answer; one that no answer may hold stands for all that are too large.
 fn small(number: u64) -> u32 {
     u32::try_from(number).unwrap_or(u32::MAX)
@@ -122,6 +130,27 @@ impl Driver {
             rest = others;
         }
         answer
+    }
+
+    /// The tree that a call left in the arrays, which a refusal leaves as they were lent.
+    fn tree(&self, number: u64, events: u64, gates: u64, lent: &Arrays, arrays: &Arrays) -> Tree {
+        let tree = if number == 0 {
+            arrays.tree(events, gates)
+        } else {
+            (arrays == lent && events == 0 && gates == 0).then(Tree::default)
+        };
+        if tree.is_none() && self.fault.get().is_none() {
+            self.fault.set(Some("the call leaves more or less than its tree in the arrays or the counts"));
+        }
+        tree.unwrap_or_default()
+    }
+
+    /// A call that writes a tree into a room.
+    fn written(&self, call: u64, tree: &Tree, room: &mut [u8]) -> WriteAnswer {
+        let arrays = Arrays::of(tree, room.len() as u64);
+        let request = arrays.lend(Request::of(call).number(tree.event_count).number(tree.gate_count)).bytes(room);
+        let [number, place, used] = self.ask(request, &mut [Area::Bytes(room)]);
+        WriteAnswer { number: small(number), place, used }
     }
 
     fn exchange(&self, request: &[u8], reply: &mut [u8]) -> io::Result<()> {
@@ -215,6 +244,21 @@ impl Arrays {
         arrays
     }
 
+    fn lend(&self, request: Request) -> Request {
+        let request = request.numbers(&self.chances).bytes(&self.kinds).bytes(&self.leasts);
+        request.bytes(&self.sizes).halves(&self.inputs)
+    }
+
+    fn areas(&mut self) -> [Area<'_>; 5] {
+        [
+            Area::Numbers(&mut self.chances),
+            Area::Bytes(&mut self.kinds),
+            Area::Bytes(&mut self.leasts),
+            Area::Bytes(&mut self.sizes),
+            Area::Halves(&mut self.inputs),
+        ]
+    }
+
     /// The tree of these counts, unless they or what stands behind them cannot be a reading's.
     fn tree(&self, events: u64, gates: u64) -> Option<Tree> {
         let (events, gates) = (events as usize, gates as usize);
@@ -253,39 +297,15 @@ impl Library for Driver {
     }
 
     fn read(&self, bytes: &[u8]) -> ReadAnswer {
-        let seed = bytes.iter().fold(0u64, |seed, &byte| seed.wrapping_mul(31).wrapping_add(byte as u64));
-        let lent = Arrays::dirty(seed);
+        let lent = Arrays::dirty(seed(bytes));
         let mut arrays = lent.clone();
-        let request =
-            Request::of(READ).bytes(bytes).numbers(&arrays.chances).bytes(&arrays.kinds).bytes(&arrays.leasts);
-        let request = request.bytes(&arrays.sizes).halves(&arrays.inputs);
-        let [number, place, events, gates] = self.ask(
-            request,
-            &mut [
-                Area::Numbers(&mut arrays.chances),
-                Area::Bytes(&mut arrays.kinds),
-                Area::Bytes(&mut arrays.leasts),
-                Area::Bytes(&mut arrays.sizes),
-                Area::Halves(&mut arrays.inputs),
-            ],
-        );
-        let tree = if number == 0 {
-            arrays.tree(events, gates)
-        } else {
-            (arrays == lent && events == 0 && gates == 0).then(Tree::default)
-        };
-        if tree.is_none() && self.fault.get().is_none() {
-            self.fault.set(Some("a reading leaves more or less than its tree in the arrays or the counts"));
-        }
-        ReadAnswer { number: small(number), place, tree: tree.unwrap_or_default() }
+        let request = arrays.lend(Request::of(READ).bytes(bytes));
+        let [number, place, events, gates] = self.ask(request, &mut arrays.areas());
+        ReadAnswer { number: small(number), place, tree: self.tree(number, events, gates, &lent, &arrays) }
     }
 
     fn write(&self, tree: &Tree, room: &mut [u8]) -> WriteAnswer {
-        let arrays = Arrays::of(tree, room.len() as u64);
-        let request = Request::of(WRITE).number(tree.event_count).number(tree.gate_count).numbers(&arrays.chances);
-        let request = request.bytes(&arrays.kinds).bytes(&arrays.leasts).bytes(&arrays.sizes).halves(&arrays.inputs);
-        let [number, place, used] = self.ask(request.bytes(room), &mut [Area::Bytes(room)]);
-        WriteAnswer { number: small(number), place, used }
+        self.written(WRITE, tree, room)
     }
 
     fn analyse(&self, bytes: &[u8], areas: Areas) -> AnalyseAnswer {
@@ -320,6 +340,25 @@ impl Library for Driver {
         let request = request.numbers(lows).numbers(highs);
         let [number, place, low, high] = self.ask(request, &mut [Area::Numbers(lows), Area::Numbers(highs)]);
         BracketAnswer { number: small(number), place, low: small(low), high: small(high) }
+    }
+
+    fn import(&self, text: &[u8], mut lists: [&mut [u32]; LISTS]) -> ImportAnswer {
+        let lent = Arrays::dirty(seed(text));
+        let mut arrays = lent.clone();
+        let mut request = Request::of(IMPORT).bytes(text);
+        for list in &lists {
+            request = request.numbers(list);
+        }
+        let mut areas: Vec<Area> = lists.iter_mut().map(|list| Area::Numbers(list)).collect();
+        let request = arrays.lend(request);
+        areas.extend(arrays.areas());
+        let [number, place, line, ring, events, gates] = self.ask(request, &mut areas);
+        let tree = self.tree(number, events, gates, &lent, &arrays);
+        ImportAnswer { number: small(number), place, line, ring, tree }
+    }
+
+    fn export(&self, tree: &Tree, room: &mut [u8]) -> WriteAnswer {
+        self.written(EXPORT, tree, room)
     }
 
     fn fault(&self) -> Option<&'static str> {

@@ -6,5 +6,5 @@ use crate::tree::Tree;
 pub const EQUATIONS: &str = include_str!("../../../examples/european1.txt");
 
 pub fn european_1() -> Tree {
-    tree_of(EQUATIONS).expect("the appendix is well formed").tree
+    tree_of(EQUATIONS)
 }

@@ -16,7 +16,7 @@ pub fn refuse<T>(number: u32, place: u64) -> Result<T, Refusal> {
 }
 
 #[derive(Clone, Copy, Debug, PartialEq, Eq)]
-enum Record {
+pub enum Record {
     Event(u64),
     Gate { kind: u32, k: u64, n: u64 },
     EventInput(u64),
@@ -54,7 +54,7 @@ fn decode(bytes: &[u8], place: usize) -> Result<(Record, usize), Refusal> {
 
 /// What the records so far have declared, and where.
 #[derive(Default)]
-struct Judge {
+pub struct Judge {
     tree: Tree,
     event_places: Vec<u64>,
     gate_places: Vec<u64>,
@@ -64,7 +64,7 @@ struct Judge {
 
 impl Judge {
     /// Every record but the end: 3, then 4, then 5, 6 or 7.
-    fn take(&mut self, record: Record, place: u64) -> Result<(), Refusal> {
+    pub fn take(&mut self, record: Record, place: u64) -> Result<(), Refusal> {
         match record {
             Record::Event(chance) => {
                 if !self.tree.gates.is_empty() {
@@ -127,7 +127,7 @@ impl Judge {
     }
 
     /// The end record: missing inputs, then bytes after it, then 4, then 8.
-    fn end(mut self, place: u64, bytes_follow: bool) -> Result<Tree, Refusal> {
+    pub fn end(mut self, place: u64, bytes_follow: bool) -> Result<Tree, Refusal> {
         if self.missing_inputs > 0 {
             return refuse(3, place);
         }

@@ -1,6 +1,7 @@
-//! What a comparison asks of an analyser: the five public calls on plain data and lent memory.
+//! What a comparison asks of an analyser: the seven public calls on plain data and lent memory.
 //! A binding to a linked library implements this; so does the mirror, for trying out the comparison.
 
+use crate::equations::LISTS;
 use crate::lent::Lent;
 use crate::sets::Set;
 use crate::tree::Tree;
@@ -48,6 +49,17 @@ pub struct BracketAnswer {
     pub high: u32,
 }
 
+/// What stands in the lists is compared beside it.
+#[derive(Clone, Debug, PartialEq, Eq)]
+pub struct ImportAnswer {
+    pub number: u32,
+    pub place: u64,
+    pub line: u64,
+    pub ring: u64,
+    /// The empty tree in a refusal.
+    pub tree: Tree,
+}
+
 /// What an analysis is lent.
 pub struct Areas<'a> {
     pub nodes: &'a mut [u32],
@@ -68,6 +80,8 @@ pub trait Library {
     /// `None` is "from the beginning".
     fn list(&self, diagram: &Lent, after: Option<Set>, room: &mut [u8]) -> ListAnswer;
     fn bracket(&self, diagram: &Lent, chances: &[u32], work: [&mut [u32]; 2]) -> BracketAnswer;
+    fn import(&self, text: &[u8], lists: [&mut [u32]; LISTS]) -> ImportAnswer;
+    fn export(&self, tree: &Tree, room: &mut [u8]) -> WriteAnswer;
 
     /// What a binding itself saw go wrong in the last call: a write outside of what was lent to be written, or no return.
     fn fault(&self) -> Option<&'static str> {

@@ -5,7 +5,7 @@ use second::bracket::{bracket, events_reached};
 use second::brute;
 use second::brute_cuts;
 use second::city;
-use second::equations::tree_of;
+use second::equations::{export, name_at, typed, Import};
 use second::generator::{middle_shape, tree};
 use second::judge::{read, write, Refusal};
 use second::listing::list;
@@ -20,8 +20,9 @@ second counts FILE             counts only, without the list of cuts
 second brute FILE              nodes by gate, cut nodes and cuts by truth tables; 12 events or so
 second plain FILE [ROOM MOST]  what bench/plain prints: cuts in rooms of ROOM bytes until MOST are written
 second program FILE            what the program of document 01 writes
-second equations FILE          the bytes of a tree written in equations
+second equations FILE          the bytes of the tree that typed equations say
 second names FILE              the numbers that those equations' names get
+second export FILE             a tree's bytes as equations
 second city small|middle|large the equations of a city-like tree
 second random SEED             the bytes of a seeded tree of middle size
 a FILE of - is the standard input";
@@ -54,6 +55,7 @@ fn main() {
         "program" => program(&bytes, out),
         "equations" => equations(&bytes, out),
         "names" => names(&bytes, out),
+        "export" => typed_out(&bytes, out),
         other => {
             eprintln!("unknown: {other}\n{USAGE}");
             exit(2);
@@ -167,30 +169,37 @@ fn city(size: &str, out: &mut dyn Write) -> io::Result<()> {
     write!(out, "{}", city::equations(city))
 }
 
-fn named(bytes: &[u8]) -> second::equations::Named {
-    tree_of(&String::from_utf8_lossy(bytes)).unwrap_or_else(|fault| {
-        eprintln!("{fault}");
-        exit(2);
-    })
+/// What a text says, if it says a tree.
+fn imported(text: &[u8]) -> Import {
+    let import = typed(text);
+    match import.number {
+        0 => return import,
+        15 | 16 => eprintln!("refused {}, line at {}", import.number, import.line),
+        17 => eprintln!("refused 17, ring of lines at {:?}", import.ring),
+        number => eprintln!("refused {number}"),
+    }
+    exit(1);
 }
 
-fn equations(bytes: &[u8], out: &mut dyn Write) -> io::Result<()> {
-    match write(&named(bytes).tree) {
-        Ok(bytes) => out.write_all(&bytes),
-        Err(Refusal { number, place }) => {
-            eprintln!("refused {number} at {place}");
-            exit(1);
+fn equations(text: &[u8], out: &mut dyn Write) -> io::Result<()> {
+    out.write_all(&write(&imported(text).tree).expect("an imported tree is accepted"))
+}
+
+fn names(text: &[u8], out: &mut dyn Write) -> io::Result<()> {
+    let Import { tree, shown, .. } = imported(text);
+    for (item, &place) in shown.iter().enumerate() {
+        let name = String::from_utf8_lossy(name_at(text, place));
+        match item.checked_sub(tree.events()) {
+            None => writeln!(out, "event {item} {name} {}", tree.chances[item])?,
+            Some(gate) => writeln!(out, "gate {gate} {name}")?,
         }
     }
+    Ok(())
 }
 
-fn names(bytes: &[u8], out: &mut dyn Write) -> io::Result<()> {
-    let named = named(bytes);
-    for (number, name) in named.event_names.iter().enumerate() {
-        writeln!(out, "event {number} {name} {}", named.tree.chances[number])?;
+fn typed_out(bytes: &[u8], out: &mut dyn Write) -> io::Result<()> {
+    match read(bytes) {
+        Ok(tree) => out.write_all(&export(&tree).expect("a read tree is accepted")),
+        Err(Refusal { number, place }) => writeln!(out, "refused {number} at {place}"),
     }
-    for (number, name) in named.gate_names.iter().enumerate() {
-        writeln!(out, "gate {number} {name}")?;
-    }
-    Ok(())
 }

@@ -3,6 +3,7 @@
 
 use crate::analysis::{analyse, Lengths};
 use crate::bracket::bracket;
+use crate::equations::{export_into, import, Import, LISTS, RING, SHOWN};
 use crate::judge::{read, write_into, Refusal};
 use crate::lent::Lent;
 use crate::library::*;
@@ -15,6 +16,21 @@ pub struct Mirror;
 fn fill(area: &mut [u32], numbers: &[u32]) {
     area.fill(0);
     area[..numbers.len()].copy_from_slice(numbers);
+}
+
+/// What the lists hold after an import.
+pub fn lay_out(answer: Import, lists: [&mut [u32]; LISTS]) -> ImportAnswer {
+    let Import { number, place, line, ring, tree, shown } = answer;
+    if number != 9 {
+        for (own, list) in lists.into_iter().enumerate() {
+            match own {
+                RING => fill(list, &ring),
+                SHOWN => fill(list, &shown),
+                _ => list.fill(0),
+            }
+        }
+    }
+    ImportAnswer { number, place, line, ring: ring.len() as u64, tree }
 }
 
 impl Mirror {
@@ -104,5 +120,17 @@ impl Library for Mirror {
             work.into_iter().for_each(|area| area.fill(0));
         }
         BracketAnswer { number: answer.number, place: answer.place, low: answer.low, high: answer.high }
+    }
+
+    fn import(&self, text: &[u8], lists: [&mut [u32]; LISTS]) -> ImportAnswer {
+        let lengths: Vec<usize> = lists.iter().map(|list| list.len()).collect();
+        lay_out(import(text, &lengths), lists)
+    }
+
+    fn export(&self, tree: &Tree, room: &mut [u8]) -> WriteAnswer {
+        match export_into(tree, room) {
+            Ok(used) => WriteAnswer { number: 0, place: 0, used: used as u64 },
+            Err(Refusal { number, place }) => WriteAnswer { number, place, used: 0 },
+        }
     }
 }

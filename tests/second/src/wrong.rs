@@ -1,6 +1,7 @@
 //! Wrong programs: the mirror with one fault each. The comparison must see every one of them.
 
 use crate::cut_diagram::CutDiagram;
+use crate::equations::LISTS;
 use crate::judge::{read, write};
 use crate::lent::Lent;
 use crate::library::*;
@@ -8,6 +9,7 @@ use crate::mirror::Mirror;
 use crate::robdd::Robdd;
 use crate::sets::Set;
 use crate::tree::*;
+use crate::wrong_equations::{wrong_export, wrong_import};
 use crate::wrong_lent::{wrong_bracket, wrong_list};
 
 // One name for each fault, and the list of them all.
@@ -68,6 +70,47 @@ wrongs! {
     JudgesReachedNodesOnly,
     RefusesEqualNodes,
     RefusesEqualBranchesOfCuts,
+    // Import.
+    LineFaultAfterSixteen,
+    ChanceJudgedByEarlierEquations,
+    SecondChanceTaken,
+    ChanceOfNoEquationTaken,
+    ChanceOfALeftNameTaken,
+    EmptyLinesPass,
+    CarriageReturnsPass,
+    LastLineFeedLacks,
+    LeadingZerosPass,
+    WordsOnTheRightPass,
+    ThirteenBytesPass,
+    LineCounted,
+    SixteenSaysTheFirst,
+    LeftTwiceTaken,
+    RingOfTheRootOnly,
+    EighteenBeforeSeventeen,
+    RingBackwards,
+    RingLeftOut,
+    EmptyTextPasses,
+    FirstRootTaken,
+    LimitsBeforeSeventeen,
+    GatesJudgedFirst,
+    CountBeforeChances,
+    NumbersWrap,
+    LongNumbersAreLines,
+    GatesNumberedWhenEntered,
+    EventsByFirstLine,
+    OneOfOneIsOr,
+    ShownInAnyLine,
+    ShownStaysOnRefusal,
+    ListLeftDirty,
+    NineAfterTheLines,
+    ClearsBeforeNineOfImport,
+    // Export.
+    OneInputKeepsItsKind,
+    ZeroChancesLeftOut,
+    ChancesFirst,
+    ExportsUntilFull,
+    ExportRoomBeforeTheTree,
+    ZerosBehindTheText,
 }
 
 use Wrong::*;
@@ -160,6 +203,14 @@ impl Library for WrongProgram {
 
     fn bracket(&self, diagram: &Lent, chances: &[u32], work: [&mut [u32]; 2]) -> BracketAnswer {
         wrong_bracket(self.0, diagram, chances, work)
+    }
+
+    fn import(&self, text: &[u8], lists: [&mut [u32]; LISTS]) -> ImportAnswer {
+        wrong_import(self.0, text, lists)
+    }
+
+    fn export(&self, tree: &Tree, room: &mut [u8]) -> WriteAnswer {
+        wrong_export(self.0, tree, room)
     }
 }
 

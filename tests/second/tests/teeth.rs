@@ -28,6 +28,8 @@ fn the_mirror_passes() {
     assert_eq!(numbers("analyse"), [0, 1, 2, 3, 4, 5, 6, 7, 8, 9, 10, 11]);
     assert_eq!(numbers("list"), [0, 12, 13, 14]);
     assert_eq!(numbers("bracket"), [0, 7, 9, 12]);
+    assert_eq!(numbers("import"), [0, 4, 5, 7, 9, 15, 16, 17, 18]);
+    assert_eq!(numbers("export"), [0, 2, 4, 5, 6, 7, 8, 9]);
 }
 
 #[test]

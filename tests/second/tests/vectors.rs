@@ -3,8 +3,7 @@
 use second::analysis::{analyse, Analysis, Lengths};
 use second::big::Big;
 use second::bracket::{bracket, events_reached, exact_chance, keeps_promise};
-use second::equations::tree_of;
-use second::european::{european_1, EQUATIONS};
+use second::european::european_1;
 use second::generator::{longest_run, longest_shape, tree};
 use second::judge::{read, write, Refusal};
 use second::lent::{Lent, Sort};
@@ -83,8 +82,7 @@ fn european() {
     let bytes = write(&tree).unwrap();
     assert_eq!(bytes, include_bytes!("../../../examples/european1.tree"));
     assert_eq!(bytes.len(), 1_067);
-    let named = tree_of(EQUATIONS).unwrap();
-    assert_eq!((named.event_names.len(), named.gate_names.len()), (61, 84));
+    assert_eq!((tree.events(), tree.gates.len()), (61, 84));
     let done = analysed(&tree);
     assert_eq!(done.robdd.nodes.count(), 13_102);
     assert_eq!(done.cuts.nodes.count(), 16_233);

@@ -3,8 +3,8 @@ use borrow.Author.Needs.{needs}
 use native.Mathlib.Omega.{arith}
 use mathlib.Core.Path.{refl}
 use Rattle.text.specs.Lines.{eventsWord, gatesWord, nodesWord}
-use Rattle.text.proofs.Putting.{put-long, put-then, put-counts}
-use Rattle.text.proofs.Decimals.{line-long}
+use Rattle.decimals.proofs.Putting.{put-long, put-then}
+use Rattle.text.proofs.Putting.{put-counts, line-long}
 use Rattle.text.proofs.head.Statement.{statement}
 use Rattle.text.proofs.head.Tie as tie
 

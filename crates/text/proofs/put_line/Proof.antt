@@ -1,8 +1,8 @@
 -- `text::put_line` meets its contract. Assumes nothing.
 use borrow.Author.Needs.{needs}
 use native.Mathlib.Omega.{arith}
-use Rattle.text.proofs.Putting.{put-long, put-then}
-use Rattle.text.proofs.Decimals.{decimal-long}
+use Rattle.decimals.proofs.Putting.{put-long, put-then}
+use Rattle.decimals.proofs.Decimals.{decimal-long}
 use Rattle.text.proofs.put_line.Statement.{statement}
 use Rattle.text.proofs.put_line.Tie as tie
 

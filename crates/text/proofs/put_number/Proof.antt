@@ -1,35 +1,42 @@
 -- `text::put_number` meets its contract. Assumes nothing.
 use borrow.Author.Needs.{needs}
-use native.Mathlib.Omega.{arith}
-use Rattle.text.proofs.Decimals.{fewest-20, put-decimal}
+use Rattle.text.proofs.Putting.{put-digits}
 use Rattle.text.proofs.put_number.Statement.{statement}
 use Rattle.text.proofs.put_number.Tie as tie
 
-decimal-requires : tie.Need-decimal-requires
-decimal-requires c κs = search needs
+slice-aggregate-digits : tie.Need-slice-aggregate-digits
+slice-aggregate-digits c = search needs
 
-array-share-prefix-digits : tie.Need-array-share-prefix-digits
-array-share-prefix-digits c = search needs
+digits-requires : tie.Need-digits-requires
+digits-requires c κs = search needs
 
-slice-aggregate-put : tie.Need-slice-aggregate-put
-slice-aggregate-put c = search needs
+sub-put : tie.Need-sub-put
+sub-put c = search needs
+
+part-put-start : tie.Need-part-put-start
+part-put-start c = search needs
+
+part-put-end : tie.Need-part-put-end
+part-put-end c = search needs
 
 put-requires : tie.Need-put-requires
-put-requires c κs = omega (arith, c .before .before .decimal .ensures .0 .1, fewest-20 (c .before .before .before .before .before .args .n) (c .before .before .decimal .result) (omega arith) (c .before .before .decimal .ensures .1 .0), c .before .before .before .before .before .pre)
+put-requires c κs = search needs
 
 same-length : tie.Need-same-length
 same-length c = search needs
 
 returns : tie.Need-returns
-returns c = put-decimal (c .before .before .before .before .before .before .before .before .args .n) (c .before .before .before .before .before .decimal .result) (c .before .before .before .before .before .decimal .last .1 .0) (fewest-20 (c .before .before .before .before .before .before .before .before .args .n) (c .before .before .before .before .before .decimal .result) (omega arith) (c .before .before .before .before .before .decimal .ensures .1 .0)) (c .before .before .before .before .before .decimal .ensures .1 .0) (c .before .before .before .before .before .decimal .ensures .1 .1) (c .before .before .put .ensures)
+returns c = put-digits (c .before .before .before .before .before .before .before .before .before .before .args .n) (c .before .before .before .before .before .before .before .digits .ensures) (c .before .before .before .before .before .before .before .digits .kept .1 .0) (c .before .before .put .ensures)
 
 pub put-number-spec : {M : Type 1} → statement M
 put-number-spec =
     tie.close
     (tie.spec
-    decimal-requires
-    array-share-prefix-digits
-    slice-aggregate-put
+    slice-aggregate-digits
+    digits-requires
+    sub-put
+    part-put-start
+    part-put-end
     put-requires
     same-length
     returns)

@@ -1,8 +1,9 @@
 -- `text::cuts::put_byte` meets its contract. Assumes nothing.
 use borrow.Author.Needs.{needs}
 use native.Mathlib.Omega.{arith}
-use Rattle.text.proofs.Putting.{put-none}
-use Rattle.text.proofs.Spelling.{kind-first, kind-next, end-first, end-next, member, put-same}
+use Rattle.decimals.proofs.Putting.{put-none}
+use Rattle.text.proofs.Putting.{put-same}
+use Rattle.text.proofs.Spelling.{kind-first, kind-next, end-first, end-next, member}
 use Rattle.text.proofs.cuts.put_byte.Statement.{statement}
 use Rattle.text.proofs.cuts.put_byte.Tie as tie
 

@@ -2,7 +2,7 @@
 use borrow.Author.Needs.{needs}
 use native.Mathlib.Omega.{arith}
 use Prim.Native.Nat.{_-_}
-use Rattle.text.proofs.Putting.{put-long}
+use Rattle.decimals.proofs.Putting.{put-long}
 use Rattle.text.proofs.Spelling.{Spelt, spell-none, spell-room, spell-more, spell-end}
 use Rattle.text.proofs.cuts.spell.Statement.{statement}
 use Rattle.text.proofs.cuts.spell.Tie as tie

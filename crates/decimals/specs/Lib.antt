@@ -1,0 +1,2 @@
+-- Text put into a lent array.
+pub mod Places

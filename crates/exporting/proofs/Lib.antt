@@ -1,0 +1,5 @@
+pub mod Laying
+pub mod Rows
+pub mod Gates
+pub mod Chances
+pub mod Exports

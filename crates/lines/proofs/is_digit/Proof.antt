@@ -1,0 +1,18 @@
+-- `lines::is_digit` meets its contract. Assumes nothing.
+use mathlib.Core.Path.{sym}
+use Rattle.lines.proofs.Tests.{digit-below, digit-rest}
+use Rattle.lines.proofs.is_digit.Statement.{statement}
+use Rattle.lines.proofs.is_digit.Tie as tie
+
+returns : tie.Need-returns
+returns c = sym (digit-below (c .before .args .b) (c .if1 .taken))
+
+returns-2 : tie.Need-returns-2
+returns-2 c = sym (digit-rest (c .before .args .b) (c .if1 .left))
+
+pub is-digit-spec : {M : Type 1} → statement M
+is-digit-spec =
+    tie.close
+    (tie.spec
+    returns
+    returns-2)

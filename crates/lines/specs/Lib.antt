@@ -1,0 +1,2 @@
+-- What the functions that read a line answer.
+pub mod Reading

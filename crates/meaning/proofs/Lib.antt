@@ -1,0 +1,30 @@
+-- Lists of numbers; walks and words; the line, the events and the gates of each name; what a tree that a text says means, its limits and its rules;
+-- one answer to each text; and what a tree's own text says: its lines, its names, its function, its cuts, its exact chance.
+pub mod Few
+pub mod Less
+pub mod Walks
+pub mod Words
+pub mod Defining
+pub mod Gates
+pub mod Naming
+pub mod Means
+pub mod Typed
+pub mod Limits
+pub mod Rules
+pub mod Whole
+pub mod Once
+pub mod Chances
+pub mod OfTexts
+pub mod Decimals
+pub mod Retold
+pub mod AgainNames
+pub mod Sums
+pub mod AgainRules
+pub mod AgainFunction
+pub mod Blind
+pub mod SameCuts
+pub mod SameChance
+pub mod Again
+pub mod Numerals
+pub mod Feeds
+pub mod Export

@@ -1,0 +1,3 @@
+-- Laws of lists of names, and of the chains that hold them.
+pub mod Dicts
+pub mod Interning

@@ -1,0 +1,2 @@
+-- Names in chains, and what interning one answers.
+pub mod Interning
