@@ -1,4 +1,4 @@
-/* Matticklet from C and C++: the seven calls of the library `libexported.a` (x86-64 Linux, System V calling convention).
+/* Matticklet from C and C++: the calls of the library `libexported.a` (x86-64 Linux, System V calling convention).
  *
  * Every call answers for any arguments and never fails otherwise: `number` is 0 for done, else the reason of a refusal (below).
  * The library holds no state, allocates nothing, and touches only what it is lent, until it returns. What memory that is lent to be
@@ -41,7 +41,8 @@ enum {
     MATTICKLET_LINE = 15,        /* a line outside the grammar, or a chance that may not be given */
     MATTICKLET_LEFT_TWICE = 16,  /* a left name twice */
     MATTICKLET_RING = 17,        /* a name that leads back to itself */
-    MATTICKLET_ROOTS = 18        /* not exactly one root */
+    MATTICKLET_ROOTS = 18,       /* not exactly one root */
+    MATTICKLET_TOO_MANY = 19     /* more than 2^64 - 1 cuts of one size */
 };
 
 /* Limits of a tree and of a table. */
@@ -54,7 +55,9 @@ enum {
     MATTICKLET_TEXT_BYTES = 47650,     /* the longest text that a tree is exported as */
     MATTICKLET_TABLE_NUMBERS = 3000000,
     MATTICKLET_BILLION = 1000000000,   /* a chance of 1 */
-    MATTICKLET_SET_WORDS = 4           /* event e is bit e % 64 of word e / 64 */
+    MATTICKLET_SET_WORDS = 4,          /* event e is bit e % 64 of word e / 64 */
+    MATTICKLET_SIZES = 257,            /* counts by size: of cuts with 0, 1, 2, up to 256 members */
+    MATTICKLET_TREES = 64              /* of a folder */
 };
 
 /* The bytes of a tree, a record after the other, low bytes first:
@@ -210,6 +213,44 @@ void matticklet_export(size_t events, size_t gates, const uint32_t chances[MATTI
                        const uint8_t kinds[MATTICKLET_GATES], const uint8_t leasts[MATTICKLET_GATES],
                        const uint8_t sizes[MATTICKLET_GATES], const uint16_t inputs[MATTICKLET_INPUTS],
                        uint8_t *room, size_t room_length, struct matticklet_export *answer);
+
+/* Cuts by size. */
+
+struct matticklet_tally {
+    uint64_t number; /* 0, 9, 12 or 19 */
+    uint64_t place;  /* 0 */
+};
+
+/* Counts the sets of a cut diagram by the number of their members, without listing them: 12, then 9, then 19. Lengths, otherwise 9: counts at least
+ * MATTICKLET_SIZES; less, work and reached each at least the table's capacity, plus 2. Done: counts[k] is the number of sets with k members, for k
+ * from 0 to 256; what lies behind these stays as it was. 19 exactly when some such number is above 2^64 - 1, whatever stands in nodes that the root
+ * does not reach; counts then stay as they were. less, work and reached are zero to the last number after 0 and after 19; 12 and 9 change nothing. */
+void matticklet_sizes(const uint32_t *cuts, size_t cuts_length, size_t events, size_t count, size_t root,
+                      uint64_t *counts, size_t counts_length, uint64_t *less, size_t less_length,
+                      uint64_t *work, size_t work_length, uint64_t *reached, size_t reached_length,
+                      struct matticklet_tally *answer);
+
+struct matticklet_gathered {
+    uint64_t number; /* 0 to 11, or 19 */
+    uint64_t place;  /* of 1 to 8, in the bytes of the refused tree; else 0 */
+    uint64_t tree;   /* index of the refused tree; 0 with every other answer */
+};
+
+/* Counts the cuts of all trees of a folder by size. The trees' bytes stand one behind the other in `bytes`, tree i has lengths[i] of them. First 9: more
+ * than MATTICKLET_TREES trees, lengths whose sum is not bytes_length, counts shorter than MATTICKLET_SIZES, or less, work or reached shorter than
+ * the cut table's capacity, plus 2. Then tree by tree, each analysed in the same lent memory as matticklet_analyse would: the first refused tree
+ * refuses the whole with its own number, 1 to 11, its place and its index. 19 only after the last tree, exactly when the cuts of one size are more
+ * than 2^64 - 1 in all trees together. Done: counts[k] is the number of cuts with k members of all trees together, what lies behind stays as it
+ * was; no tree at all is done with zeros. Every refusal leaves counts as they were. All else that is lent to be written stays as it was where the
+ * first 9, or the first tree's 1 to 9, is the answer, and is zero to the last number after every other answer. */
+void matticklet_folder(const uint8_t *bytes, size_t bytes_length, const size_t *lengths, size_t lengths_length,
+                       uint32_t *nodes, size_t nodes_length, uint32_t *cuts, size_t cuts_length,
+                       uint32_t *gates, size_t gates_length, uint32_t *memo, size_t memo_length,
+                       uint32_t *heads, size_t heads_length, uint32_t *next, size_t next_length,
+                       uint32_t *marks, size_t marks_length, uint32_t *own, size_t own_length,
+                       uint64_t *counts, size_t counts_length, uint64_t *less, size_t less_length,
+                       uint64_t *work, size_t work_length, uint64_t *reached, size_t reached_length,
+                       struct matticklet_gathered *answer);
 
 #ifdef __cplusplus
 }

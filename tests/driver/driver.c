@@ -15,7 +15,7 @@
 
 enum { GUARD = 72, AREAS = 24 }; /* no area is aligned beyond its need */
 enum { GUARDS_STAND = 1, CONST_AREAS_STAND = 2 };
-enum { READ = 1, WRITE = 2, ANALYSE = 3, LIST = 4, BRACKET = 5, IMPORT = 6, EXPORT = 7 };
+enum { READ = 1, WRITE = 2, ANALYSE = 3, LIST = 4, BRACKET = 5, IMPORT = 6, EXPORT = 7, SIZES = 8, FOLDER = 9 };
 enum { LISTS = 11, RING = 9 }; /* of an import, in the header's order */
 
 struct area {
@@ -242,6 +242,39 @@ static void export_call(void)
     reply(answer, written, 1);
 }
 
+static void sizes_call(void)
+{
+    struct area *cuts = area(4);
+    size_t events = number(), count = number(), root = number();
+    struct area *counts = area(8), *less = area(8), *work = area(8), *reached = area(8);
+    struct area *answer = answer_area(2);
+    struct matticklet_tally *a = contents(answer);
+    matticklet_sizes(contents(cuts), cuts->length, events, count, root, contents(counts), counts->length, contents(less),
+                     less->length, contents(work), work->length, contents(reached), reached->length, a);
+    if (spoiled == SIZES && a->number == MATTICKLET_DONE && counts->length > MATTICKLET_SIZES)
+        ((uint64_t *)contents(counts))[MATTICKLET_SIZES] ^= 1; /* behind the counts */
+    struct area *written[] = { counts, less, work, reached };
+    reply(answer, written, 4);
+}
+
+static void folder_call(void)
+{
+    struct area *bytes = area(1), *lengths = area(sizeof(size_t)), *nodes = area(4), *cuts = area(4), *gates = area(4), *memo = area(4);
+    struct area *heads = area(4), *next = area(4), *marks = area(4), *own = area(4);
+    struct area *counts = area(8), *less = area(8), *work = area(8), *reached = area(8);
+    struct area *answer = answer_area(3);
+    struct matticklet_gathered *a = contents(answer);
+    matticklet_folder(contents(bytes), bytes->length, contents(lengths), lengths->length, contents(nodes), nodes->length,
+                      contents(cuts), cuts->length, contents(gates), gates->length, contents(memo), memo->length, contents(heads),
+                      heads->length, contents(next), next->length, contents(marks), marks->length, contents(own), own->length,
+                      contents(counts), counts->length, contents(less), less->length, contents(work), work->length,
+                      contents(reached), reached->length, a);
+    if (spoiled == FOLDER && a->tree > 1)
+        ((uint64_t *)contents(reached))[0] = 1; /* a later tree's refusal leaves a number standing */
+    struct area *written[] = { nodes, cuts, gates, memo, heads, next, marks, own, counts, less, work, reached };
+    reply(answer, written, 12);
+}
+
 int main(int words, char **word)
 {
     uint64_t call;
@@ -258,6 +291,8 @@ int main(int words, char **word)
         case BRACKET: bracket_call(); break;
         case IMPORT: import_call(); break;
         case EXPORT: export_call(); break;
+        case SIZES: sizes_call(); break;
+        case FOLDER: folder_call(); break;
         default: fail("no such call");
         }
         if (fflush(stdout) != 0)

@@ -11,6 +11,8 @@ use Rattle.listing.specs.declared.Listed.{Listed}
 use Rattle.bracket.specs.declared.Ends.{Ends}
 use Rattle.memory.specs.declared.Analysis.{Analysis}
 use Rattle.equations.specs.declared.Imported.{Imported}
+use Rattle.sizes.specs.declared.Tally.{Tally}
+use Rattle.folder.specs.declared.Gathered.{Gathered}
 
 abbrev pub ofReading : Reading → List ℕ
 ofReading r = verdict (r .answer) .number ∷ verdict (r .answer) .place ∷ r .tree .«event_count» ∷ r .tree .«gate_count» ∷ []
@@ -29,3 +31,9 @@ ofBracket e = e .number ∷ e .place ∷ e .low ∷ e .high ∷ []
 
 abbrev pub ofImport : Imported → List ℕ
 ofImport a = a .number ∷ a .place ∷ a .line ∷ a .ring ∷ a .tree .«event_count» ∷ a .tree .«gate_count» ∷ []
+
+abbrev pub ofTally : Tally → List ℕ
+ofTally t = t .number ∷ t .place ∷ []
+
+abbrev pub ofGathered : Gathered → List ℕ
+ofGathered g = g .number ∷ g .place ∷ g .tree ∷ []

@@ -21,8 +21,12 @@ ghost use Rattle.exporting.specs.Exports.{exportOf};
 ghost use Rattle.equations.specs.Lists.{lists};
 ghost use Rattle.equations.specs.Contract.{Imports};
 ghost use Rattle.equations.specs.declared.Imported.{Imported};
+ghost use Rattle.sizes.specs.Counted.{Counted};
+ghost use Rattle.sizes.specs.declared.Tally.{Tally};
+ghost use Rattle.folder.specs.Contract.{lends, Gathers};
+ghost use Rattle.folder.specs.declared.Gathered.{Gathered};
 ghost use Rattle.exported.specs.Arrays.{arrays, treeFrom, filled, after};
-ghost use Rattle.exported.specs.Numbers.{ofReading, ofWriting, ofAnalysis, ofListing, ofBracket, ofImport};
+ghost use Rattle.exported.specs.Numbers.{ofReading, ofWriting, ofAnalysis, ofListing, ofBracket, ofImport, ofTally, ofGathered};
 
 // Puts a tree into five arrays where the number is 0.
 fn fill(
@@ -278,4 +282,63 @@ pub extern "C" fn matticklet_export(
         rules::place(a) as u64,
         w.bytes as u64,
     ];
+}
+
+// Counts the sets of a lent cut diagram by size. The answer: number, place.
+#[no_mangle]
+pub extern "C" fn matticklet_sizes(
+    cuts: &[u32],
+    events: usize,
+    count: usize,
+    root: usize,
+    counts: &mut [u64],
+    less: &mut [u64],
+    work: &mut [u64],
+    reached: &mut [u64],
+    answer: &mut [u64; 2],
+)
+    ensures { λ _. ⌜ ((r : Tally) × (Counted events (now (cuts .entry)) count root (r .number) (r .place) (now (counts .entry)) (now (less .entry)) (now (work .entry)) (now (reached .entry)) (now (counts .exit)) (now (less .exit)) (now (work .exit)) (now (reached .exit)) × (now (answer .exit) ≡ ofTally r))) ⌝ }
+{
+    let r = sizes::sizes(cuts, events, count, root, counts, less, work, reached);
+    *answer = [r.number as u64, r.place as u64];
+}
+
+// Counts the cuts of a folder's trees by size. The answer: number, place, tree.
+#[no_mangle]
+pub extern "C" fn matticklet_folder(
+    bytes: &[u8],
+    lengths: &[usize],
+    nodes: &mut [u32],
+    cuts: &mut [u32],
+    gates: &mut [u32],
+    memo: &mut [u32],
+    heads: &mut [u32],
+    next: &mut [u32],
+    marks: &mut [u32],
+    own: &mut [u32],
+    counts: &mut [u64],
+    less: &mut [u64],
+    work: &mut [u64],
+    reached: &mut [u64],
+    answer: &mut [u64; 3],
+)
+    ensures { λ _. ⌜ ((r : Gathered) × (Gathers (now (bytes .entry)) (now (lengths .entry)) (lends (memory (now (nodes .entry)) (now (cuts .entry)) (now (gates .entry)) (now (memo .entry)) (now (heads .entry)) (now (next .entry)) (now (marks .entry)) (now (own .entry))) (now (less .entry)) (now (work .entry)) (now (reached .entry))) (now (counts .entry)) (lends (memory (now (nodes .exit)) (now (cuts .exit)) (now (gates .exit)) (now (memo .exit)) (now (heads .exit)) (now (next .exit)) (now (marks .exit)) (now (own .exit))) (now (less .exit)) (now (work .exit)) (now (reached .exit))) (now (counts .exit)) r × (now (answer .exit) ≡ ofGathered r))) ⌝ }
+{
+    let r = folder::folder(
+        bytes,
+        lengths,
+        nodes,
+        cuts,
+        gates,
+        memo,
+        heads,
+        next,
+        marks,
+        own,
+        counts,
+        less,
+        work,
+        reached,
+    );
+    *answer = [r.number as u64, r.place as u64, r.tree as u64];
 }

@@ -12,6 +12,7 @@ pub mod Cuts
 pub mod Order
 pub mod Listing
 pub mod Chance
+pub mod Sizes
 pub mod Answers
 pub mod Bytes
 pub mod Grammar

@@ -2,6 +2,7 @@
 ghost use mathlib.Core.Path.{_≡_};
 ghost use Rattle.paper.specs.Limits.{limits, mostNumbers, billion};
 ghost use Rattle.paper.specs.Flat.{gatesFrom};
+ghost use Rattle.paper.specs.Sizes.{sizes};
 
 // The most events, gates, inputs to one gate, and inputs in all.
 pub const EVENTS: usize = 256;
@@ -18,6 +19,9 @@ pub const GATES_FROM: u16 = 256;
 // The most numbers of a table, three for each node.
 pub const TABLE: usize = 3000000;
 
+// The number of counts by size: one for each size from 0 to the most events.
+pub const SIZES: usize = 257;
+
 // A chance is counted in billionths.
 pub const BILLION: u32 = 1000000000;
 
@@ -29,6 +33,7 @@ pub struct Bounds {
     pub in_all: usize,
     pub gates_from: u16,
     pub table: usize,
+    pub sizes: usize,
     pub billion: u32,
 }
 
@@ -39,6 +44,7 @@ pub fn all_bounds() -> Bounds
     ensures in_all { λ r. ⌜ r .«in_all» ≡ limits .inAll ⌝ }
     ensures gates_from { λ r. ⌜ r .«gates_from» ≡ gatesFrom ⌝ }
     ensures table { λ r. ⌜ r .table ≡ mostNumbers ⌝ }
+    ensures sizes { λ r. ⌜ r .sizes ≡ sizes ⌝ }
     ensures billion { λ r. ⌜ r .billion ≡ billion ⌝ }
 {
     Bounds {
@@ -48,6 +54,7 @@ pub fn all_bounds() -> Bounds
         in_all: IN_ALL,
         gates_from: GATES_FROM,
         table: TABLE,
+        sizes: SIZES,
         billion: BILLION,
     }
 }

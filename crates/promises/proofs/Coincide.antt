@@ -109,7 +109,7 @@ same-refused {v} {a} {b} r s = λ i. record {
   «cut_root» = (s .no-cut-root ∙ sym (r .no-cut-root)) i;
 }
 
-same-zero : {m m₁ m₂ : Memory} → AllZero m m₁ → AllZero m m₂ → m₂ ≡ m₁
+pub same-zero : {m m₁ m₂ : Memory} → AllZero m m₁ → AllZero m m₂ → m₂ ≡ m₁
 same-zero {m} {m₁} {m₂} r s = λ i. record {
   nodes = (s .nodes ∙ sym (r .nodes)) i;
   cuts = (s .cuts ∙ sym (r .cuts)) i;

@@ -14,7 +14,7 @@ use Rattle.memory.specs.declared.Analysis.{Analysis}
 use Rattle.memory.proofs.Before.{SameLengths, all-zero-from, done-from, lengths-from}
 
 module _ {m k : Memory} (s : SameLengths m k) where
-  other-way : SameLengths k m
+  pub other-way : SameLengths k m
   other-way = record {
     nodes = sym (s .nodes);
     cuts = sym (s .cuts);
@@ -26,16 +26,16 @@ module _ {m k : Memory} (s : SameLengths m k) where
     own = sym (s .own);
   }
 
-  nodes-full : (t : Tree) → NodesFull t (capacity (k .nodes)) → NodesFull t (capacity (m .nodes))
+  pub nodes-full : (t : Tree) → NodesFull t (capacity (k .nodes)) → NodesFull t (capacity (m .nodes))
   nodes-full t = subst (λ n. NodesFull t (n / 3)) (s .nodes)
 
-  nodes-full-back : (t : Tree) → NodesFull t (capacity (m .nodes)) → NodesFull t (capacity (k .nodes))
+  pub nodes-full-back : (t : Tree) → NodesFull t (capacity (m .nodes)) → NodesFull t (capacity (k .nodes))
   nodes-full-back t = subst (λ n. NodesFull t (n / 3)) (sym (s .nodes))
 
-  cuts-full : (t : Tree) → CutsFull t (capacity (k .cuts)) → CutsFull t (capacity (m .cuts))
+  pub cuts-full : (t : Tree) → CutsFull t (capacity (k .cuts)) → CutsFull t (capacity (m .cuts))
   cuts-full t = subst (λ n. CutsFull t (n / 3)) (s .cuts)
 
-  cuts-full-back : (t : Tree) → CutsFull t (capacity (m .cuts)) → CutsFull t (capacity (k .cuts))
+  pub cuts-full-back : (t : Tree) → CutsFull t (capacity (m .cuts)) → CutsFull t (capacity (k .cuts))
   cuts-full-back t = subst (λ n. CutsFull t (n / 3)) (sym (s .cuts))
 
   pub any-contents : {bytes : List ℕ} {m′ : Memory} {a : Analysis} → Analysed bytes k m′ a → Analysed bytes m m′ a ⊎ ((m′ ≡ k) × Analysed bytes m m a)

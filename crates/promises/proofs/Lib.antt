@@ -12,3 +12,4 @@ pub mod Telling
 pub mod Serving
 pub mod OnTables
 pub mod Delivers
+pub mod BySize

@@ -80,7 +80,7 @@ module _ {bytes : List ℕ} {m m′ : Memory} {a : Analysis} where
   from-eleven (Analysed.done b p n f g r) q = absurd (let e = r .number in omega arith)
 
   -- and a done analysis leaves its tables
-  from-done : Analysed bytes m m′ a → a .number ≡ 0 → (t : Accepted bytes) × Long t m × (TooManyNodes t m → ⊥) × (TooManyCuts t m → ⊥) × Done (treeOf (t .book)) m m′ a
+  pub from-done : Analysed bytes m m′ a → a .number ≡ 0 → (t : Accepted bytes) × Long t m × (TooManyNodes t m → ⊥) × (TooManyCuts t m → ⊥) × Done (treeOf (t .book)) m m′ a
   from-done (Analysed.bad-tree w p r k) q = absurd (let e = r .number in let (l, h) = refusal-range bytes w p in omega arith)
   from-done (Analysed.bad-length b p n r k) q = absurd (let e = r .number in omega arith)
   from-done (Analysed.nodes-full b p n f r k) q = absurd (let e = r .number in omega arith)

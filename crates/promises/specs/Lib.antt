@@ -1,5 +1,6 @@
--- Why an analysis answers as it does, when two outcomes are the same, and the three promises of an analysis in one.
+-- Why an analysis answers as it does, when two outcomes are the same, the three promises of an analysis in one, and its cuts by size.
 pub mod Reasons
 pub mod Coincide
 pub mod Delivers
 pub mod Memo
+pub mod BySize

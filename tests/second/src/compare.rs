@@ -3,8 +3,10 @@
 use crate::analysis::{analyse, Analysis, Lengths};
 use crate::compare_equations::{compare_texts, compare_trees};
 use crate::compare_lent::{compare_bracket, compare_list};
+use crate::compare_sizes::{compare_folders, compare_sizes};
 use crate::damage::{damaged, tree_in_memory};
 use crate::diagrams;
+use crate::families;
 use crate::generator::{self, large_shape, longest_shape, middle_shape, small_shape};
 use crate::judge::{read, write, Refusal};
 use crate::lent::{Lent, Sort};
@@ -12,7 +14,7 @@ use crate::library::*;
 use crate::random::Random;
 use crate::renumbering::renumbering;
 use crate::tally::{hex, Tally};
-use crate::tree::Tree;
+use crate::tree::{Tree, MOST_GATES};
 
 /// Larger diagrams are cut off here: their inputs then ask for number 10.
 const MOST_NODES: usize = 6_000;
@@ -21,7 +23,7 @@ const MOST_NODES: usize = 6_000;
 pub fn compare_input(library: &dyn Library, seed: u64, tally: &mut Tally) {
     let random = &mut Random::new(seed);
     tally.begin(seed);
-    match seed % 20 {
+    match seed % 22 {
         0 => compare_reading(library, &generator::bytes(random), random, tally),
         1..=3 => {
             let number = random.between(1, 8) as u32;
@@ -48,14 +50,16 @@ pub fn compare_input(library: &dyn Library, seed: u64, tally: &mut Tally) {
         12..=15 => {
             let sort = if seed % 2 == 0 { Sort::Function } else { Sort::Cuts };
             let nodes = if random.once_in(50) { 400 } else { random.of(&[3, 12, 40]) };
-            let diagram = match random.once_in(3) {
-                true => diagrams::damaged(random, sort, nodes),
-                false => diagrams::good(random, sort, nodes),
+            let diagram = match random.below(9) {
+                0..=2 => diagrams::damaged(random, sort, nodes),
+                3 | 4 if sort == Sort::Cuts => families::seeded(random),
+                _ => diagrams::good(random, sort, nodes),
             };
             compare_diagram(library, &diagram, random, tally);
         }
         16..=18 => compare_texts(library, random, tally),
-        _ => compare_trees(library, random, tally),
+        19 => compare_trees(library, random, tally),
+        _ => compare_folders(library, random, tally),
     }
 }
 
@@ -68,7 +72,10 @@ fn compare_tree(library: &dyn Library, tree: &Tree, random: &mut Random, tally: 
 pub fn compare_diagram(library: &dyn Library, diagram: &Lent, random: &mut Random, tally: &mut Tally) {
     match diagram.sort {
         Sort::Function => compare_bracket(library, diagram, None, random, tally),
-        Sort::Cuts => compare_list(library, diagram, random, tally),
+        Sort::Cuts => {
+            compare_list(library, diagram, random, tally);
+            compare_sizes(library, diagram, random, tally);
+        }
     }
 }
 
@@ -138,12 +145,26 @@ pub fn compare_rooms(
     }
 }
 
+/// What a tree needs, or several together.
+#[derive(Clone, Copy)]
+pub struct Need {
+    pub nodes: usize,
+    pub cuts: usize,
+    pub gates: usize,
+}
+
+impl Need {
+    /// None where the tree is refused, or too large to be built.
+    pub fn of(bytes: &[u8]) -> Option<Need> {
+        let done = analyse(bytes, Lengths::of_capacities(MOST_NODES, MOST_NODES)).ok()?;
+        let Analysis { tree, robdd, cuts } = done;
+        Some(Need { nodes: robdd.nodes.count(), cuts: cuts.nodes.count(), gates: tree.gates.len() })
+    }
+}
+
 /// The lengths to be lent, near what the tree needs: mostly right, each wrong in some of the inputs.
-fn lengths(library: &dyn Library, need: &Result<Analysis, Refusal>, random: &mut Random) -> (Lengths, [usize; 4]) {
-    let (nodes, cuts, gates) = match need {
-        Ok(done) => (done.robdd.nodes.count(), done.cuts.nodes.count(), done.tree.gates.len()),
-        Err(_) => (random.below(MOST_NODES), random.below(200), 512),
-    };
+pub fn lengths(library: &dyn Library, need: Need, random: &mut Random) -> (Lengths, [usize; 4]) {
+    let Need { nodes, cuts, gates } = need;
     let mut around = |needed: usize| match random.below(8) {
         0 => needed.saturating_sub(1),
         1 => random.below(needed + 1),
@@ -209,9 +230,46 @@ pub fn dirty(random: &mut Random, length: usize) -> Guarded<u32> {
     Guarded::new(contents.collect(), 0xDEAD_BEEF)
 }
 
+/// What an analysis is lent, dirty.
+pub struct Memory {
+    nodes: Guarded<u32>,
+    cuts: Guarded<u32>,
+    gates: Guarded<u32>,
+    memo: Guarded<u32>,
+    work: [Guarded<u32>; 4],
+}
+
+impl Memory {
+    pub fn dirty(lengths: Lengths, work_lengths: [usize; 4], random: &mut Random) -> Memory {
+        Memory {
+            nodes: dirty(random, lengths.node_table),
+            cuts: dirty(random, lengths.cut_table),
+            gates: dirty(random, lengths.gate_list),
+            memo: dirty(random, lengths.memo),
+            work: work_lengths.map(|length| dirty(random, length)),
+        }
+    }
+
+    pub fn lend(&mut self) -> Areas<'_> {
+        Areas {
+            nodes: self.nodes.lend(),
+            cuts: self.cuts.lend(),
+            gates: self.gates.lend(),
+            memo: self.memo.lend(),
+            work: self.work.each_mut().map(Guarded::lend),
+        }
+    }
+
+    pub fn all(&self) -> [&Guarded<u32>; 8] {
+        let [heads, next, marks, own] = &self.work;
+        [&self.nodes, &self.cuts, &self.gates, &self.memo, heads, next, marks, own]
+    }
+}
+
 pub fn compare_analysis(library: &dyn Library, bytes: &[u8], random: &mut Random, tally: &mut Tally) {
-    let need = analyse(bytes, Lengths::of_capacities(MOST_NODES, MOST_NODES));
-    let (lengths, work_lengths) = lengths(library, &need, random);
+    let some = Need { nodes: random.below(MOST_NODES), cuts: random.below(200), gates: MOST_GATES };
+    let need = Need::of(bytes).unwrap_or(some);
+    let (lengths, work_lengths) = lengths(library, need, random);
     compare_analysis_in(library, bytes, lengths, work_lengths, random, tally);
 }
 
@@ -232,22 +290,11 @@ pub fn compare_analysis_in(
         tally.meet("with one quadruple", lengths.memo == 4);
         tally.meet("with 10,000 quadruples", lengths.memo >= 40_000);
     }
-    let mut nodes = dirty(random, lengths.node_table);
-    let mut cuts = dirty(random, lengths.cut_table);
-    let mut gates = dirty(random, lengths.gate_list);
-    let mut memo = dirty(random, lengths.memo);
-    let mut work = work_lengths.map(|length| dirty(random, length));
-    let areas = Areas {
-        nodes: nodes.lend(),
-        cuts: cuts.lend(),
-        gates: gates.lend(),
-        memo: memo.lend(),
-        work: work.each_mut().map(Guarded::lend),
-    };
+    let mut memory = Memory::dirty(lengths, work_lengths, random);
     tally.note(|| format!("{} lengths {lengths:?} work areas {work_lengths:?}", hex(bytes)));
-    let got = library.analyse(bytes, areas);
+    let got = library.analyse(bytes, memory.lend());
     no_fault(library, tally);
-    let all = [&nodes, &cuts, &gates, &memo, &work[0], &work[1], &work[2], &work[3]];
+    let all = memory.all();
     tally.holds("guards of an analysis", all.iter().all(|area| area.guards_stand()));
     match expected {
         Err(Refusal { number, place }) => {
@@ -272,22 +319,16 @@ pub fn compare_analysis_in(
             tally.large("nodes", counts.2);
             tally.large("cut nodes", counts.3);
             tally.large("memo", lengths.memo as u64);
-            compare_tables(&done, &got, &nodes, &cuts, &gates, tally);
-            let tables = (nodes.now(), cuts.now());
+            compare_tables(&done, &got, &memory, tally);
+            let tables = (memory.nodes.now(), memory.cuts.now());
             compare_uses(library, &done, &got, tables, random, tally);
         }
     }
 }
 
 /// Both tables, the gate list and the roots, up to a renumbering of nodes.
-fn compare_tables(
-    done: &Analysis,
-    got: &AnalyseAnswer,
-    nodes: &Guarded<u32>,
-    cuts: &Guarded<u32>,
-    gates: &Guarded<u32>,
-    tally: &mut Tally,
-) {
+fn compare_tables(done: &Analysis, got: &AnalyseAnswer, memory: &Memory, tally: &mut Tally) {
+    let Memory { nodes, cuts, gates, .. } = memory;
     let ours = |map: &Option<Vec<u32>>, node: u32| map.as_ref().and_then(|map| map.get(node as usize).copied());
     let map = renumbering(nodes.now(), got.nodes as usize, &done.robdd.nodes);
     tally.holds("the node table", map.is_some());
@@ -323,6 +364,7 @@ fn compare_uses(
     let family = lent(Sort::Cuts, cuts, got.cut_nodes, got.cut_root);
     tally.holds("built diagrams are diagrams", function.is_diagram() && family.is_diagram());
     compare_list(library, &family, random, tally);
+    compare_sizes(library, &family, random, tally);
     compare_bracket(library, &function, Some(&done.tree.chances), random, tally);
     if random.once_in(8) {
         // Each taken for the other kind: answered for what it denotes, if it keeps that kind's rules.

@@ -5,6 +5,7 @@ use crate::city::{self, city};
 use crate::compare::{compare_analysis_in, compare_diagram, compare_reading};
 use crate::compare_equations::{compare_export, compare_import};
 use crate::compare_lent::one_listing;
+use crate::compare_sizes::compare_figures;
 use crate::diagrams;
 use crate::european::{self, european_1};
 use crate::generator::longest_run;
@@ -23,6 +24,7 @@ pub fn compare_large(library: &dyn Library, tally: &mut Tally) {
     compare_named(library, "a small city", &city(city::SMALL), random, tally);
     compare_named(library, "a middle city", &city(city::MIDDLE), random, tally);
     compare_named(library, "a large city", &city(city::LARGE), random, tally);
+    compare_figures(library, random, tally);
     compare_longest_bytes(library, random, tally);
     compare_longest_tables(library, random, tally);
     // These are too long to be told.

@@ -1,10 +1,12 @@
 //! The linked library, behind the process of `tests/driver`: a call is a request over one pipe and an answer over another.
 
+use crate::arrays::Arrays;
 use crate::equations::LISTS;
 use crate::lent::Lent;
 use crate::library::*;
 use crate::sets::Set;
-use crate::tree::*;
+use crate::sizes::COUNT_AREAS;
+use crate::tree::Tree;
 use std::cell::{Cell, RefCell};
 use std::io::{self, Read, Write};
 use std::process::{Child, Command, Stdio};
@@ -16,6 +18,8 @@ const LIST: u64 = 4;
 const BRACKET: u64 = 5;
 const IMPORT: u64 = 6;
 const EXPORT: u64 = 7;
+const SIZES: u64 = 8;
+const FOLDER: u64 = 9;
 
 /// What the driver says of a call when every guard and every constant area stands.
 const ALL_STANDS: u64 = 3;
@@ -28,14 +32,15 @@ pub struct Driver {
 }
 
 /// A lent area that a call may write.
-enum Area<'a> {
+pub enum Area<'a> {
     Bytes(&'a mut [u8]),
     Halves(&'a mut [u16]),
     Numbers(&'a mut [u32]),
+    Words(&'a mut [u64]),
 }
 
 /// The bytes of a request: the call, then its arguments in the header's order.
-struct Request(Vec<u8>);
+pub struct Request(Vec<u8>);
 
 impl Request {
     fn of(call: u64) -> Request {
@@ -47,19 +52,19 @@ impl Request {
         self
     }
 
-    fn bytes(self, area: &[u8]) -> Request {
+    pub fn bytes(self, area: &[u8]) -> Request {
         let mut request = self.number(area.len() as u64);
         request.0.extend(area);
         request
     }
 
-    fn halves(self, area: &[u16]) -> Request {
+    pub fn halves(self, area: &[u16]) -> Request {
         let mut request = self.number(area.len() as u64);
         request.0.extend(area.iter().flat_map(|number| number.to_le_bytes()));
         request
     }
 
-    fn numbers(self, area: &[u32]) -> Request {
+    pub fn numbers(self, area: &[u32]) -> Request {
         let mut request = self.number(area.len() as u64);
         request.0.extend(area.iter().flat_map(|number| number.to_le_bytes()));
         request
@@ -176,6 +181,7 @@ impl Area<'_> {
             Area::Bytes(area) => area.len(),
             Area::Halves(area) => 2 * area.len(),
             Area::Numbers(area) => 4 * area.len(),
+            Area::Words(area) => 8 * area.len(),
         }
     }
 
@@ -192,98 +198,22 @@ impl Area<'_> {
                     *number = u32::from_le_bytes([four[0], four[1], four[2], four[3]]);
                 }
             }
+            Area::Words(area) => {
+                for (number, eight) in area.iter_mut().zip(bytes.chunks_exact(8)) {
+                    *number = word(eight);
+                }
+            }
         }
     }
 }
 
-/// A tree as the library takes it.
-#[derive(Clone, PartialEq, Eq)]
-struct Arrays {
-    chances: Vec<u32>,
-    kinds: Vec<u8>,
-    leasts: Vec<u8>,
-    sizes: Vec<u8>,
-    inputs: Vec<u16>,
-}
-
-impl Arrays {
-    /// Anything at all.
-    fn dirty(seed: u64) -> Arrays {
-        let dirt = |place: usize| seed.wrapping_add(place as u64).wrapping_mul(0x9E37_79B9_7F4A_7C15) >> 32;
-        let bytes = |more: usize| -> Vec<u8> { (0..MOST_GATES).map(|gate| dirt(gate + more) as u8).collect() };
-        Arrays {
-            chances: (0..MOST_EVENTS).map(|event| dirt(event) as u32).collect(),
-            kinds: bytes(0),
-            leasts: bytes(1_000),
-            sizes: bytes(2_000),
-            inputs: (0..MOST_INPUTS).map(|input| dirt(input) as u16).collect(),
-        }
-    }
-
-    /// A tree with dirt behind what it tells: its counts may exceed its lists, as everywhere here, and then stand for
-    /// events of chance 0, gates of no input, and inputs of event 0.
-    fn of(tree: &Tree, seed: u64) -> Arrays {
-        let mut arrays = Arrays::dirty(seed);
-        let told = |count: u64, most: usize| count.min(most as u64) as usize;
-        for event in 0..told(tree.event_count, MOST_EVENTS) {
-            arrays.chances[event] = tree.chance(event as u64);
-        }
-        let byte = |number: u32| u8::try_from(number).expect("a gate's numbers are bytes");
-        let mut inputs = 0;
-        for place in 0..told(tree.gate_count, MOST_GATES) {
-            let gate = tree.gate(place as u64);
-            arrays.kinds[place] = byte(gate.kind);
-            arrays.leasts[place] = byte(gate.k);
-            arrays.sizes[place] = byte(gate.n);
-            inputs += gate.n as u64;
-        }
-        for place in 0..told(inputs, MOST_INPUTS) {
-            let number = tree.inputs.get(place).copied().unwrap_or(0);
-            arrays.inputs[place] = u16::try_from(number).expect("an input has two bytes");
-        }
-        arrays
-    }
-
+impl<'a> CountAreas<'a> {
     fn lend(&self, request: Request) -> Request {
-        let request = request.numbers(&self.chances).bytes(&self.kinds).bytes(&self.leasts);
-        request.bytes(&self.sizes).halves(&self.inputs)
+        self.work.iter().fold(request.words(self.counts), |request, area| request.words(area))
     }
 
-    fn areas(&mut self) -> [Area<'_>; 5] {
-        [
-            Area::Numbers(&mut self.chances),
-            Area::Bytes(&mut self.kinds),
-            Area::Bytes(&mut self.leasts),
-            Area::Bytes(&mut self.sizes),
-            Area::Halves(&mut self.inputs),
-        ]
-    }
-
-    /// The tree of these counts, unless they or what stands behind them cannot be a reading's.
-    fn tree(&self, events: u64, gates: u64) -> Option<Tree> {
-        let (events, gates) = (events as usize, gates as usize);
-        let (chances, behind) = self.chances.split_at_checked(events)?;
-        let clean = |array: &[u8]| array.get(gates..).is_some_and(|behind| behind.iter().all(|&number| number == 0));
-        if behind.iter().any(|&chance| chance != 0)
-            || ![&self.kinds, &self.leasts, &self.sizes].into_iter().all(|a| clean(a))
-        {
-            return None;
-        }
-        let gate = |place: usize| Gate {
-            kind: self.kinds[place] as u32,
-            k: self.leasts[place] as u32,
-            n: self.sizes[place] as u32,
-        };
-        let all: Vec<Gate> = (0..gates).map(gate).collect();
-        let total: usize = all.iter().map(|gate| gate.n as usize).sum();
-        let (inputs, behind) = self.inputs.split_at_checked(total)?;
-        behind.iter().all(|&input| input == 0).then(|| Tree {
-            event_count: events as u64,
-            gate_count: gates as u64,
-            chances: chances.to_vec(),
-            gates: all,
-            inputs: inputs.iter().map(|&input| input as u32).collect(),
-        })
+    fn areas(self) -> Vec<Area<'a>> {
+        std::iter::once(self.counts).chain(self.work).map(Area::Words).collect()
     }
 }
 
@@ -294,6 +224,10 @@ impl Library for Driver {
 
     fn smallest_bracket_areas(&self, capacity: usize) -> [usize; 2] {
         [capacity; 2]
+    }
+
+    fn smallest_count_areas(&self, capacity: usize) -> [usize; COUNT_AREAS] {
+        [capacity + 2; COUNT_AREAS]
     }
 
     fn read(&self, bytes: &[u8]) -> ReadAnswer {
@@ -310,8 +244,7 @@ impl Library for Driver {
 
     fn analyse(&self, bytes: &[u8], areas: Areas) -> AnalyseAnswer {
         let mut request = Request::of(ANALYSE).bytes(bytes);
-        let Areas { nodes, cuts, gates, memo, work: [heads, next, marks, own] } = areas;
-        let mut all = [nodes, cuts, gates, memo, heads, next, marks, own];
+        let mut all = areas.all();
         for area in &all {
             request = request.numbers(area);
         }
@@ -359,6 +292,23 @@ impl Library for Driver {
 
     fn export(&self, tree: &Tree, room: &mut [u8]) -> WriteAnswer {
         self.written(EXPORT, tree, room)
+    }
+
+    fn sizes(&self, diagram: &Lent, counting: CountAreas) -> SizesAnswer {
+        let request = Request::of(SIZES).numbers(&diagram.table).number(diagram.event_count).number(diagram.node_count);
+        let request = counting.lend(request.number(diagram.root));
+        let [number, place] = self.ask(request, &mut counting.areas());
+        SizesAnswer { number: small(number), place }
+    }
+
+    fn folder(&self, bytes: &[u8], lengths: &[u64], areas: Areas, counting: CountAreas) -> FolderAnswer {
+        let mut all = areas.all();
+        let request = Request::of(FOLDER).bytes(bytes).words(lengths);
+        let request = counting.lend(all.iter().fold(request, |request, area| request.numbers(area)));
+        let mut written: Vec<Area> = all.iter_mut().map(|area| Area::Numbers(area)).collect();
+        written.extend(counting.areas());
+        let [number, place, tree] = self.ask(request, &mut written);
+        FolderAnswer { number: small(number), place, tree }
     }
 
     fn fault(&self) -> Option<&'static str> {

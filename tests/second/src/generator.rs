@@ -89,6 +89,29 @@ pub fn narrow_tree(random: &mut Random) -> Tree {
     tree
 }
 
+/// The ors of so many pairs of events, and those that are joined by an and.
+fn pairs(pairs: usize) -> (Tree, Vec<Input>) {
+    let mut tree = Tree::of_chances(&vec![1; 2 * pairs]);
+    let pair = |pair: u32| [Input::Event(2 * pair), Input::Event(2 * pair + 1)];
+    let ors = (0..pairs as u32).map(|number| or(&mut tree, &pair(number))).collect();
+    (tree, ors)
+}
+
+/// An and of so many ors of two events: 2 to that power cuts, all of one size.
+pub fn and_of_ors(count: usize) -> Tree {
+    let (mut tree, ors) = pairs(count);
+    and(&mut tree, &ors);
+    tree
+}
+
+/// The same cuts with a tenth of the nodes: the and begins at the last or.
+pub fn ors_from_the_last(count: usize) -> Tree {
+    let (mut tree, mut ors) = pairs(count);
+    ors.reverse();
+    and(&mut tree, &ors);
+    tree
+}
+
 pub fn chance(random: &mut Random) -> u32 {
     match random.below(8) {
         0 => random.of(&[0, 1, 2, D - 2, D - 1, D, D / 2, D / 3]),

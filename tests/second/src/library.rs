@@ -1,9 +1,10 @@
-//! What a comparison asks of an analyser: the seven public calls on plain data and lent memory.
+//! What a comparison asks of an analyser: the nine public calls on plain data and lent memory.
 //! A binding to a linked library implements this; so does the mirror, for trying out the comparison.
 
 use crate::equations::LISTS;
 use crate::lent::Lent;
 use crate::sets::Set;
+use crate::sizes::COUNT_AREAS;
 use crate::tree::Tree;
 
 #[derive(Clone, Debug, PartialEq, Eq)]
@@ -60,6 +61,19 @@ pub struct ImportAnswer {
     pub tree: Tree,
 }
 
+#[derive(Clone, Copy, Debug, PartialEq, Eq)]
+pub struct SizesAnswer {
+    pub number: u32,
+    pub place: u64,
+}
+
+#[derive(Clone, Copy, Debug, PartialEq, Eq)]
+pub struct FolderAnswer {
+    pub number: u32,
+    pub place: u64,
+    pub tree: u64,
+}
+
 /// What an analysis is lent.
 pub struct Areas<'a> {
     pub nodes: &'a mut [u32],
@@ -69,10 +83,45 @@ pub struct Areas<'a> {
     pub work: [&'a mut [u32]; 4],
 }
 
+impl<'a> Areas<'a> {
+    /// All of it, in the order of the call.
+    pub fn all(self) -> [&'a mut [u32]; 8] {
+        let Areas { nodes, cuts, gates, memo, work: [heads, next, marks, own] } = self;
+        [nodes, cuts, gates, memo, heads, next, marks, own]
+    }
+
+    pub fn again(&mut self) -> Areas<'_> {
+        Areas {
+            nodes: self.nodes,
+            cuts: self.cuts,
+            gates: self.gates,
+            memo: self.memo,
+            work: self.work.each_mut().map(|area| &mut **area),
+        }
+    }
+
+    pub fn clear(self) {
+        self.all().into_iter().for_each(|area| area.fill(0));
+    }
+}
+
+/// What counting by size is lent.
+pub struct CountAreas<'a> {
+    pub counts: &'a mut [u64],
+    pub work: [&'a mut [u64]; COUNT_AREAS],
+}
+
+impl CountAreas<'_> {
+    pub fn again(&mut self) -> CountAreas<'_> {
+        CountAreas { counts: self.counts, work: self.work.each_mut().map(|area| &mut **area) }
+    }
+}
+
 pub trait Library {
     /// The documented smallest lengths of the work areas; an area that isn't asked for has 0.
     fn smallest_areas(&self, node_capacity: usize, cut_capacity: usize) -> [usize; 4];
     fn smallest_bracket_areas(&self, capacity: usize) -> [usize; 2];
+    fn smallest_count_areas(&self, capacity: usize) -> [usize; COUNT_AREAS];
 
     fn read(&self, bytes: &[u8]) -> ReadAnswer;
     fn write(&self, tree: &Tree, room: &mut [u8]) -> WriteAnswer;
@@ -82,6 +131,9 @@ pub trait Library {
     fn bracket(&self, diagram: &Lent, chances: &[u32], work: [&mut [u32]; 2]) -> BracketAnswer;
     fn import(&self, text: &[u8], lists: [&mut [u32]; LISTS]) -> ImportAnswer;
     fn export(&self, tree: &Tree, room: &mut [u8]) -> WriteAnswer;
+
+    fn sizes(&self, diagram: &Lent, counting: CountAreas) -> SizesAnswer;
+    fn folder(&self, bytes: &[u8], lengths: &[u64], areas: Areas, counting: CountAreas) -> FolderAnswer;
 
     /// What a binding itself saw go wrong in the last call: a write outside of what was lent to be written, or no return.
     fn fault(&self) -> Option<&'static str> {

@@ -6,11 +6,13 @@ use second::brute;
 use second::brute_cuts;
 use second::city;
 use second::equations::{export, name_at, typed, Import};
+use second::folders::Folder;
 use second::generator::{middle_shape, tree};
 use second::judge::{read, write, Refusal};
 use second::listing::list;
 use second::program::{program, report};
 use second::random::Random;
+use second::sizes::{folder, RefusedFolder};
 use std::io::{self, Read, Write};
 use std::process::exit;
 
@@ -23,6 +25,7 @@ second program FILE            what the program of document 01 writes
 second equations FILE          the bytes of the tree that typed equations say
 second names FILE              the numbers that those equations' names get
 second export FILE             a tree's bytes as equations
+second sizes FILE..            how many cuts of each size the trees have together
 second city small|middle|large the equations of a city-like tree
 second random SEED             the bytes of a seeded tree of middle size
 a FILE of - is the standard input";
@@ -56,6 +59,7 @@ fn main() {
         "equations" => equations(&bytes, out),
         "names" => names(&bytes, out),
         "export" => typed_out(&bytes, out),
+        "sizes" => by_size(&words[1..], out),
         other => {
             eprintln!("unknown: {other}\n{USAGE}");
             exit(2);
@@ -201,5 +205,21 @@ fn typed_out(bytes: &[u8], out: &mut dyn Write) -> io::Result<()> {
     match read(bytes) {
         Ok(tree) => out.write_all(&export(&tree).expect("a read tree is accepted")),
         Err(Refusal { number, place }) => writeln!(out, "refused {number} at {place}"),
+    }
+}
+
+fn by_size(files: &[String], out: &mut dyn Write) -> io::Result<()> {
+    let trees: Vec<Vec<u8>> = files.iter().map(|file| contents(file)).collect();
+    let Folder { bytes, lengths } = Folder::of(&trees);
+    match folder(&bytes, &lengths, Lengths::AMPLE, true) {
+        Ok(totals) => {
+            let mut told = totals.iter().enumerate().filter(|&(_, &count)| count != 0);
+            told.try_for_each(|(size, count)| writeln!(out, "size {size}: {count}"))
+        }
+        Err(RefusedFolder { number: 19, .. }) => writeln!(out, "refused 19"),
+        Err(RefusedFolder { number, place, tree }) => {
+            let file = files.get(tree as usize).map_or("the folder", String::as_str);
+            writeln!(out, "refused {number} at {place}: {file}")
+        }
     }
 }

@@ -9,6 +9,7 @@ use crate::lent::Lent;
 use crate::library::*;
 use crate::listing::list;
 use crate::sets::Set;
+use crate::sizes::{folder, sizes, RefusedFolder, COUNT_AREAS, SIZES};
 use crate::tree::Tree;
 
 pub struct Mirror;
@@ -33,7 +34,21 @@ pub fn lay_out(answer: Import, lists: [&mut [u32]; LISTS]) -> ImportAnswer {
     ImportAnswer { number, place, line, ring: ring.len() as u64, tree }
 }
 
+/// What the lists of a counting hold next, where it is not refused before anything is written.
+pub fn lay_out_counts(counts: Option<&[u64]>, counting: CountAreas) {
+    if let Some(counts) = counts {
+        counting.counts[..counts.len()].copy_from_slice(counts);
+    }
+    counting.work.into_iter().for_each(|area| area.fill(0));
+}
+
 impl Mirror {
+    /// Whether the lists of a counting are long enough for a table of so many numbers.
+    pub fn counting_suffices(&self, table: usize, counting: &CountAreas) -> bool {
+        let smallest = self.smallest_count_areas(table / 3);
+        counting.counts.len() >= SIZES && counting.work.iter().zip(smallest).all(|(area, least)| area.len() >= least)
+    }
+
     pub fn lengths(areas: &Areas, smallest: [usize; 4]) -> Lengths {
         Lengths {
             node_table: areas.nodes.len(),
@@ -54,6 +69,10 @@ impl Library for Mirror {
         [capacity + 2; 2]
     }
 
+    fn smallest_count_areas(&self, capacity: usize) -> [usize; COUNT_AREAS] {
+        [capacity + 2; COUNT_AREAS]
+    }
+
     fn read(&self, bytes: &[u8]) -> ReadAnswer {
         match read(bytes) {
             Ok(tree) => ReadAnswer { number: 0, place: 0, tree },
@@ -68,16 +87,12 @@ impl Library for Mirror {
         }
     }
 
-    fn analyse(&self, bytes: &[u8], areas: Areas) -> AnalyseAnswer {
+    fn analyse(&self, bytes: &[u8], mut areas: Areas) -> AnalyseAnswer {
         let smallest = self.smallest_areas(areas.nodes.len() / 3, areas.cuts.len() / 3);
         let done = analyse(bytes, Mirror::lengths(&areas, smallest));
         let refusal = done.as_ref().err().copied();
         if refusal.is_none_or(|refusal| refusal.number >= 10) {
-            areas.nodes.fill(0);
-            areas.cuts.fill(0);
-            areas.gates.fill(0);
-            areas.memo.fill(0);
-            areas.work.into_iter().for_each(|area| area.fill(0));
+            areas.again().clear();
         }
         match done {
             Ok(done) => {
@@ -132,5 +147,27 @@ impl Library for Mirror {
             Ok(used) => WriteAnswer { number: 0, place: 0, used: used as u64 },
             Err(Refusal { number, place }) => WriteAnswer { number, place, used: 0 },
         }
+    }
+
+    fn sizes(&self, diagram: &Lent, counting: CountAreas) -> SizesAnswer {
+        let answer = sizes(diagram, self.counting_suffices(diagram.table.len(), &counting));
+        let (number, place) = answer.as_ref().map_or_else(|&Refusal { number, place }| (number, place), |_| (0, 0));
+        if [0, 19].contains(&number) {
+            lay_out_counts(answer.ok().as_deref(), counting);
+        }
+        SizesAnswer { number, place }
+    }
+
+    fn folder(&self, bytes: &[u8], lengths: &[u64], areas: Areas, counting: CountAreas) -> FolderAnswer {
+        let smallest = self.smallest_areas(areas.nodes.len() / 3, areas.cuts.len() / 3);
+        let suffice = self.counting_suffices(areas.cuts.len(), &counting);
+        let answer = folder(bytes, lengths, Mirror::lengths(&areas, smallest), suffice);
+        let refused = answer.as_ref().err().copied();
+        if !refused.is_some_and(|refused| refused.leaves_memory()) {
+            areas.clear();
+            lay_out_counts(answer.ok().as_deref(), counting);
+        }
+        let RefusedFolder { number, place, tree } = refused.unwrap_or(RefusedFolder::whole(0));
+        FolderAnswer { number, place, tree }
     }
 }

@@ -132,7 +132,7 @@ fn bad_line(random: &mut Random, draft: &mut Draft, lines: &mut Vec<Line>) -> Op
             return Some(lines[line].bytes.clone());
         }
         _ => {
-            let good = random.below(lines.len());
+            let good = of(random, lines, &|line| line.about != About::Nothing).expect("there is an equation");
             let bytes = outside(random, &lines[good].bytes.clone());
             put(random, lines, Line { bytes, about: About::Nothing, fault: 15 });
         }

@@ -8,9 +8,11 @@ use crate::library::*;
 use crate::mirror::Mirror;
 use crate::robdd::Robdd;
 use crate::sets::Set;
+use crate::sizes::COUNT_AREAS;
 use crate::tree::*;
 use crate::wrong_equations::{wrong_export, wrong_import};
 use crate::wrong_lent::{wrong_bracket, wrong_list};
+use crate::wrong_sizes::{wrong_folder, wrong_sizes};
 
 // One name for each fault, and the list of them all.
 macro_rules! wrongs {
@@ -111,6 +113,35 @@ wrongs! {
     ExportsUntilFull,
     ExportRoomBeforeTheTree,
     ZerosBehindTheText,
+    // Sizes.
+    UnreachedOverflowRefuses,
+    LargestRefused,
+    StopsAtTheLargest,
+    CountsStartBeforeNineteen,
+    EmptySetUnderOne,
+    LastSizeLeftOut,
+    EmptySetNotCounted,
+    ZerosBehindTheCounts,
+    CountingAreaLeftDirty,
+    CountingAreasStayOnNineteen,
+    CountsNeedNotReach256,
+    NineBeforeTwelveOfSizes,
+    // Folder.
+    FirstSixtyFourTrees,
+    LengthsWrap,
+    BytesLeftOver,
+    NineAfterTheTrees,
+    TreesOwnNineteen,
+    NineteenAtOnce,
+    PlaceInTheFolder,
+    TreeNotTold,
+    LastRefusedTree,
+    TotalsOfTheLast,
+    CountsBeforeARefusal,
+    MemoryStaysAfterALaterTree,
+    CountingAreasStayAfterALaterTree,
+    FirstTreeClears,
+    EmptyFolderChangesNothing,
 }
 
 use Wrong::*;
@@ -124,6 +155,10 @@ impl Library for WrongProgram {
 
     fn smallest_bracket_areas(&self, capacity: usize) -> [usize; 2] {
         Mirror.smallest_bracket_areas(capacity)
+    }
+
+    fn smallest_count_areas(&self, capacity: usize) -> [usize; COUNT_AREAS] {
+        Mirror.smallest_count_areas(capacity)
     }
 
     fn read(&self, bytes: &[u8]) -> ReadAnswer {
@@ -168,10 +203,10 @@ impl Library for WrongProgram {
     fn analyse(&self, bytes: &[u8], mut areas: Areas) -> AnalyseAnswer {
         let nodes_before = areas.nodes.to_vec();
         let other = other_steps(self.0, bytes);
-        let mut answer = Mirror.analyse(other.as_deref().unwrap_or(bytes), again(&mut areas));
+        let mut answer = Mirror.analyse(other.as_deref().unwrap_or(bytes), areas.again());
         match (self.0, answer.number) {
             (SafeBound, 0) if areas.nodes.len() < 4 * answer.nodes as usize => {
-                again(&mut areas).clear();
+                areas.again().clear();
                 answer = AnalyseAnswer { number: 10, place: 0, nodes: 0, cut_nodes: 0, root: 0, cut_root: 0 };
             }
             (CountsReachedCutNodes, 0) => {
@@ -185,7 +220,7 @@ impl Library for WrongProgram {
                 let end = 3 * answer.nodes as usize;
                 areas.nodes[end..].copy_from_slice(&nodes_before[end..]);
             }
-            (ClearsBeforeNine, 9) => again(&mut areas).clear(),
+            (ClearsBeforeNine, 9) => areas.again().clear(),
             (OneNodeForAllGates, 0) => {
                 areas.gates.iter_mut().filter(|node| **node != 0).for_each(|node| *node = answer.root);
             }
@@ -212,25 +247,13 @@ impl Library for WrongProgram {
     fn export(&self, tree: &Tree, room: &mut [u8]) -> WriteAnswer {
         wrong_export(self.0, tree, room)
     }
-}
 
-fn again<'a>(areas: &'a mut Areas) -> Areas<'a> {
-    Areas {
-        nodes: areas.nodes,
-        cuts: areas.cuts,
-        gates: areas.gates,
-        memo: areas.memo,
-        work: areas.work.each_mut().map(|area| &mut **area),
+    fn sizes(&self, diagram: &Lent, counting: CountAreas) -> SizesAnswer {
+        wrong_sizes(self.0, diagram, counting)
     }
-}
 
-impl Areas<'_> {
-    fn clear(self) {
-        self.nodes.fill(0);
-        self.cuts.fill(0);
-        self.gates.fill(0);
-        self.memo.fill(0);
-        self.work.into_iter().for_each(|area| area.fill(0));
+    fn folder(&self, bytes: &[u8], lengths: &[u64], areas: Areas, counting: CountAreas) -> FolderAnswer {
+        wrong_folder(self.0, bytes, lengths, areas, counting)
     }
 }
 

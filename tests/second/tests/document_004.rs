@@ -2,6 +2,7 @@
 
 use second::analysis::{analyse, Analysis, Lengths};
 use second::brute::fails;
+use second::heat_removal::{f023_open, heat_removal};
 use second::judge::write;
 use second::listing::Walk;
 use second::tree::*;
@@ -180,38 +181,16 @@ fn section_6_2_standby() {
     assert_eq!(counts(&done), (38, 16));
 }
 
-/// F023 open, over events 11 to 20 of the document or over those numbered from `first`.
-fn a10(tree: &mut Tree, first: u32) -> Input {
-    let event = |number: u32| event(number - 11 + first);
-    let a16 = or(tree, &[event(14), event(15)]);
-    let a15 = and(tree, &[a16, event(16)]);
-    let a14 = or(tree, &[a15, event(17), event(19), event(20)]);
-    let a18 = and(tree, &[a14, event(18)]);
-    let inner = or(tree, &[event(12), event(13), a18]);
-    and(tree, &[event(11), inner])
-}
-
 #[test]
 fn section_6_3_f023_open() {
     let mut tree = Tree::of_chances(&[1; 10]);
-    a10(&mut tree, 1);
+    f023_open(&mut tree, 1);
     assert_eq!(cuts(&analysed(&tree)).len(), 7);
 }
 
 #[test]
 fn section_6_3_heat_removal() {
-    let mut tree = Tree::of_chances(&[1; 21]);
-    let a2 = or(&mut tree, &events([1, 2]));
-    let g34 = or(&mut tree, &events([3, 4]));
-    let g345 = and(&mut tree, &[g34, event(5)]);
-    let g3456 = or(&mut tree, &[g345, event(6)]);
-    let a4 = and(&mut tree, &[g3456, event(7)]);
-    let a8 = and(&mut tree, &events([7, 8]));
-    let middle = or(&mut tree, &[a4, a8, event(9), event(10)]);
-    let a10 = a10(&mut tree, 11);
-    let last = or(&mut tree, &[a10, event(21)]);
-    and(&mut tree, &[a2, middle, last]);
-    let done = analysed(&tree);
+    let done = analysed(&heat_removal());
     let found = cuts(&done);
     assert_eq!(found.len(), 96);
     let of_size = |size: usize| found.iter().filter(|cut| cut.len() == size).count();

@@ -19,7 +19,7 @@ fn tally(library: &dyn Library, inputs: u64) -> Tally {
 
 #[test]
 fn the_mirror_passes() {
-    let tally = tally(&Mirror, 4_000);
+    let tally = tally(&Mirror, 6_000);
     assert_eq!(tally.failed, 0, "{}", tally.first_difference.unwrap_or_default());
     assert!(tally.passed > 30_000, "{}", tally.line());
     let numbers = |call| -> Vec<u32> { tally.due.keys().filter(|due| due.0 == call).map(|due| due.1).collect() };
@@ -30,6 +30,8 @@ fn the_mirror_passes() {
     assert_eq!(numbers("bracket"), [0, 7, 9, 12]);
     assert_eq!(numbers("import"), [0, 4, 5, 7, 9, 15, 16, 17, 18]);
     assert_eq!(numbers("export"), [0, 2, 4, 5, 6, 7, 8, 9]);
+    assert_eq!(numbers("sizes"), [0, 9, 12, 19]);
+    assert_eq!(numbers("folder"), [0, 1, 2, 3, 4, 5, 6, 7, 8, 9, 10, 11, 19]);
 }
 
 #[test]

@@ -4,7 +4,7 @@ use second::analysis::{analyse, Analysis, Lengths};
 use second::big::Big;
 use second::bracket::{bracket, events_reached, exact_chance, keeps_promise};
 use second::european::european_1;
-use second::generator::{longest_run, longest_shape, tree};
+use second::generator::{and_of_ors, longest_run, longest_shape, tree};
 use second::judge::{read, write, Refusal};
 use second::lent::{Lent, Sort};
 use second::listing::{list, Walk};
@@ -176,10 +176,6 @@ fn ands_of_ors() {
     for (pairs, nodes, cut_nodes, cuts) in
         [(63, 4_095, 126, "9223372036854775808"), (64, 4_224, 128, "18446744073709551616")]
     {
-        let mut tree = Tree::of_chances(&vec![1; 2 * pairs]);
-        let ors: Vec<Input> =
-            (0..pairs as u32).map(|pair| or(&mut tree, &[Event(2 * pair), Event(2 * pair + 1)])).collect();
-        and(&mut tree, &ors);
-        assert_eq!(counts(&tree), (nodes, cut_nodes, cuts.into()));
+        assert_eq!(counts(&and_of_ors(pairs)), (nodes, cut_nodes, cuts.into()));
     }
 }

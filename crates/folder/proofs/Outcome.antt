@@ -1,0 +1,57 @@
+-- What the call answers after the row of trees, and after all that was lent is cleared.
+-- Assumes nothing.
+use mathlib.Core.Path.{_≡_, refl, sym, _∙_, subst}
+use mathlib.Core.List.{List}
+use Prim.Native.Nat.{ℕ, _≤_}
+use native.Mathlib.Decide.{ℕ-discrete}
+use native.Mathlib.Omega.{arith}
+use Rattle.memory.proofs.Before.{all-zero-from, zero-from}
+use Rattle.totals.specs.Adding.{Ends}
+use Rattle.folder.specs.Contract.{Lends, Right, Answers, Cleared, AtOnce, Leaves, Gathers}
+use Rattle.folder.specs.Steps.{Tried}
+use Rattle.folder.specs.declared.Gathered.{Gathered}
+use Rattle.folder.proofs.Passing.{refusal-number}
+use Rattle.folder.proofs.Going.{Kept}
+
+-- cleared later is cleared from the beginning
+cleared-from : {l k l′ : Lends} → Kept l k → Cleared k l′ → Cleared l l′
+cleared-from {l} {k} {l′} h c = record {
+  memory = all-zero-from (h .memory) (c .memory);
+  less = zero-from (h .memory) (l .less) (k .less) (l′ .less) (h .less) (c .less);
+  work = zero-from (h .memory) (l .work) (k .work) (l′ .work) (h .work) (c .work);
+  reached = zero-from (h .memory) (l .reached) (k .reached) (l′ .reached) (h .reached) (c .reached);
+}
+
+module _ {bytes lengths : List ℕ} {l k : Lends} {C L : List ℕ} {a : Gathered} (f : Right bytes lengths l C) (t : Tried bytes lengths l k L a) where
+  -- the first tree's own 1 to 9: nothing was changed
+  pub at-once : (a .tree ≡ 0) × (1 ≤ a .number) × (a .number ≤ 9) → Gathers bytes lengths l C k C a
+  at-once (z, s, n) = go t
+    where
+      go : Tried bytes lengths l k L a → Gathers bytes lengths l C k C a
+      go (Tried.refused i v r e u) =
+          let q : AtOnce i (v .number) = (sym (e .tree-is) ∙ z, subst (λ x. x ≤ 9) (e .number-is) n) in
+          Gathers.refused i v f r e (Leaves.unchanged q (u q)) refl
+      go (Tried.passed ts due p b e) = absurd (let w = e .number-is in let (q, o) = b .over (λ x. omega (arith, x, w, s)) in omega (arith, q, w, n))
+
+  -- otherwise all that was lent is zero, and the counts are written or stay
+  pub ended : {l′ : Lends} {C′ : List ℕ} → Kept l k → Cleared k l′ → ((a .tree ≡ 0) × (1 ≤ a .number) × (a .number ≤ 9) → ⊥) → Ends (a .number) C L C′ → Gathers bytes lengths l C l′ C′ a
+  ended {l′} {C′} h z n w = go t
+    where
+      c : Cleared l l′
+      c = cleared-from h z
+
+      go : Tried bytes lengths l k L a → Gathers bytes lengths l C l′ C′ a
+      go (Tried.refused i v r e u) =
+          let (low, high) = refusal-number (r .refused) in
+          let q = e .number-is in
+          Gathers.refused i v f r e (Leaves.zeroed (λ (x, y). n (e .tree-is ∙ x, omega (arith, q, low), omega (arith, q, y))) c) (w .refused (λ x. omega (arith, x, q, low)))
+      go (Tried.passed ts due p s e) = told (ℕ-discrete due 0)
+        where
+          told : Dec (due ≡ 0) → Gathers bytes lengths l C l′ C′ a
+          told (yes x) =
+              let v = w .done (e .number-is ∙ x) in
+              Gathers.done ts f p (s .fits x) (subst (λ y. Answers a y 0 0) x e) c
+              (record { long = v .long; totals = λ j m. v .at j m ∙ s .exact x j m; behind = v .behind })
+          told (no x) =
+              let (q, b) = s .over x in
+              Gathers.too-many ts f p b (subst (λ y. Answers a y 0 0) q e) c (w .refused (λ y. x (sym (e .number-is) ∙ y)))
