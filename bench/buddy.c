@@ -37,15 +37,20 @@ static BDD gate(const uint8_t **at, const BDD *gates)
     const uint8_t *b = *at;
     int kind = b[0], k = b[1], n = kind == 4 ? b[2] : b[1];
     BDD operand[MATTICKLET_GATE_INPUTS];
+    int input[MATTICKLET_GATE_INPUTS], count = 0;
     b += kind == 4 ? 3 : 2;
     for (int i = 0; i < n; i++) {
-        operand[i] = b[0] == 5 ? bdd_ithvar(b[1]) : gates[b[1] | b[2] << 8];
+        input[count] = b[0] == 5 ? b[1] : 256 + (b[1] | b[2] << 8);
         b += b[0] == 5 ? 2 : 3;
+        int j = 0; /* at-least counts each input once, at its first place */
+        while (kind == 4 && input[j] != input[count]) j++;
+        if (kind != 4 || j == count) count++;
     }
     *at = b;
-    if (kind == 4) return at_least(k, n, operand);
+    for (int i = 0; i < count; i++) operand[i] = input[i] < 256 ? bdd_ithvar(input[i]) : gates[input[i] - 256];
+    if (kind == 4) return at_least(k, count, operand);
     BDD r = bdd_addref(operand[0]);
-    for (int i = 1; i < n; i++) r = joined(kind == 3, r, operand[i]);
+    for (int i = 1; i < count; i++) r = joined(kind == 3, r, operand[i]);
     return r;
 }
 

@@ -151,8 +151,22 @@ static u32 at_least(Store *s, u32 k, u32 n, const u32 *operands)
     return row[k];
 }
 
+/* The inputs that no earlier one is, at their first places; answers how many. */
+static u32 distinct(u32 n, const uint16_t *input, uint16_t *own)
+{
+    u32 count = 0;
+    for (u32 i = 0; i < n; i++) {
+        u32 j = 0;
+        while (j < count && own[j] != input[i]) j++;
+        if (j == count) own[count++] = input[i];
+    }
+    return count;
+}
+
 static u32 gate_node(Store *s, const u32 *gates, u32 kind, u32 k, u32 n, const uint16_t *input)
 {
+    uint16_t own[MATTICKLET_GATE_INPUTS];
+    if (kind != AND && kind != OR) n = distinct(n, input, own), input = own;
     u32 operands[MATTICKLET_GATE_INPUTS] = {0};
     for (u32 i = 0; i < n; i++) {
         operands[i] = input[i] < 256 ? find_or_add(s, input[i], 1, 0) : gates[input[i] - 256];

@@ -2,7 +2,7 @@
  *
  * Every call answers for any arguments and never fails otherwise: `number` is 0 for done, else the reason of a refusal (below).
  * The library holds no state, allocates nothing, and touches only what it is lent, until it returns. What memory that is lent to be
- * written holds before a call never matters. A call takes up to some 130 KB of stack (read off the compiled code, not proved).
+ * written holds before a call never matters. A call takes up to some 150 KB of stack (read off the compiled code, not proved).
  *
  * A caller from C must keep what the language keeps for its own callers:
  *   - a pointer is never null, also where the length beside it is 0, and is aligned for its type;
@@ -28,7 +28,7 @@ enum {
     MATTICKLET_UNKNOWN_KIND = 2,
     MATTICKLET_OUT_OF_PLACE = 3, /* a record or byte out of place */
     MATTICKLET_COUNT = 4,        /* a count above its maximum, n of 0, or an end with no event or no gate */
-    MATTICKLET_THRESHOLD = 5,    /* k is 0 or above n */
+    MATTICKLET_THRESHOLD = 5,    /* k is 0 or above the number of distinct inputs */
     MATTICKLET_REFERENCE = 6,    /* an event that is not there, or a gate not below its gate */
     MATTICKLET_CHANCE = 7,       /* a chance above 1,000,000,000 */
     MATTICKLET_UNUSED = 8,       /* an unused event, or an unused gate that is not the root */
@@ -64,7 +64,8 @@ enum {
  *   01 c c c c   next event, its chance in billionths
  *   02 n         next gate: and of n inputs          03 n   or of n inputs          04 k n   at least k of n inputs
  *   05 e         input: event e                      06 g g input: gate g           07       end
- * Events come first, then gates, each followed by its n inputs; the last gate is the root.
+ * Events come first, then gates, each followed by its n inputs; the last gate is the root. An input may stand twice in a gate; an at-least gate counts it
+ * once. So 5 is judged after the gate's last input, and its place is the gate's record; whatever is wrong with one of those inputs comes first.
  *
  * A tree in memory is its two counts and five arrays:
  *   chances   of the events;
@@ -168,8 +169,9 @@ void matticklet_bracket(const uint32_t *nodes, size_t nodes_length, size_t event
  *   a = b1 or b2      b1 = c1 and c2      x = at-least 2 in u, v, w      x = y, an or of one input
  *   p c1 5000         the chance of c1 in billionths; 0 where no line gives it
  * A line has one connective. A name is a letter, then letters or digits, at most 12 bytes; and, or, at, in and p are no names. A number has no
- * leading zeros and any length. Left names are gates, all others events; the one left name that is no input is the root. Events are numbered by
- * first appearance in a depth-first walk from the root, left to right, gates when the walk leaves them. */
+ * leading zeros and any length. A name that stands twice in an at-least counts once. Left names are gates, all others events; the one left name
+ * that is no input is the root. Events are numbered by first appearance in a depth-first walk from the root, left to right, gates when the walk
+ * leaves them. */
 
 struct matticklet_import {
     uint64_t number; /* 0, 4, 5, 7, 9, or 15 to 18 */

@@ -12,10 +12,11 @@ use lib.Dec.{leb, leb·zero, leb·suc-zero, leb·suc-suc}
 use Rattle.paper.specs.Lists.{In, keep, flat}
 use Rattle.paper.specs.Sets.{Set, none}
 use Rattle.paper.specs.Functions.{Fun, table, Monotone}
-use Rattle.paper.specs.Trees.{Input, event, gate, Gate, andG, orG, leastG, eventF, constF, countFails, InputsBelow, GateBelow, TreeBelow, everyFails, someFails}
+use Rattle.paper.specs.Trees.{Input, event, gate, Gate, andG, orG, leastG, distinctInputs, eventF, constF, countFails, InputsBelow, GateBelow, TreeBelow, everyFails, someFails}
 use Rattle.paper.specs.Steps.{joinFrom, joinAll, joinSteps, joinAllSteps, least, leastSteps, input, value, eventSteps, steps, valuesFrom, stepsFrom, join, joinF, stepFuns}
 use Rattle.paper.specs.Nodes.{needed, nodesNeeded}
 use Rattle.paper.specs.Diagrams.{Diagram, leaf, eval}
+use Rattle.twins.proofs.Inputs.{distinct-below}
 use Rattle.algebra.specs.Operations.{joinD, subs, isNode, nodeCount, eventD, gateDiagrams, stepDiagrams}
 use Rattle.algebra.proofs.Join.{joined-from}
 use Rattle.algebra.proofs.Without.{Fit}
@@ -128,7 +129,8 @@ module _ {X Y : Type 0} (ev : ℕ → X) (ct : Bool → X) (jn : Bool → X → 
   r-value : (gs : List X) (hs : List Y) → Pairs R gs hs → (g : Gate) → GateBelow n g → R (value ev ct jn gs g) (value ev′ ct′ jn′ hs g)
   r-value gs hs p (andG is) b = r-joinAll false (map (input ev ct jn gs) is) (map (input ev′ ct′ jn′ hs) is) (r-inputs gs hs p is b)
   r-value gs hs p (orG is) b = r-joinAll true (map (input ev ct jn gs) is) (map (input ev′ ct′ jn′ hs) is) (r-inputs gs hs p is b)
-  r-value gs hs p (leastG k is) b = r-least k (map (input ev ct jn gs) is) (map (input ev′ ct′ jn′ hs) is) (r-inputs gs hs p is b)
+  r-value gs hs p (leastG k is) b =
+      r-least k (map (input ev ct jn gs) (distinctInputs is)) (map (input ev′ ct′ jn′ hs) (distinctInputs is)) (r-inputs gs hs p (distinctInputs is) (distinct-below n is b))
 
   r-events : (is : List Input) → InputsBelow n is → Pairs R (eventSteps ev ct jn is) (eventSteps ev′ ct′ jn′ is)
   r-events [] b = tt
@@ -141,7 +143,11 @@ module _ {X Y : Type 0} (ev : ℕ → X) (ct : Bool → X) (jn : Bool → X → 
   r-steps : (gs : List X) (hs : List Y) → Pairs R gs hs → (g : Gate) → GateBelow n g → Pairs R (steps ev ct jn gs g) (steps ev′ ct′ jn′ hs g)
   r-steps gs hs p (andG is) b = r-after is b (joinAllSteps ev ct jn false (map (input ev ct jn gs) is)) (joinAllSteps ev′ ct′ jn′ false (map (input ev′ ct′ jn′ hs) is)) (r-joinAllSteps false (map (input ev ct jn gs) is) (map (input ev′ ct′ jn′ hs) is) (r-inputs gs hs p is b))
   r-steps gs hs p (orG is) b = r-after is b (joinAllSteps ev ct jn true (map (input ev ct jn gs) is)) (joinAllSteps ev′ ct′ jn′ true (map (input ev′ ct′ jn′ hs) is)) (r-joinAllSteps true (map (input ev ct jn gs) is) (map (input ev′ ct′ jn′ hs) is) (r-inputs gs hs p is b))
-  r-steps gs hs p (leastG k is) b = r-after is b (leastSteps ev ct jn k (map (input ev ct jn gs) is)) (leastSteps ev′ ct′ jn′ k (map (input ev′ ct′ jn′ hs) is)) (r-leastSteps k (map (input ev ct jn gs) is) (map (input ev′ ct′ jn′ hs) is) (r-inputs gs hs p is b))
+  r-steps gs hs p (leastG k is) b =
+      let js = distinctInputs is in
+      let below : InputsBelow n js = distinct-below n is b in
+      r-after js below (leastSteps ev ct jn k (map (input ev ct jn gs) js)) (leastSteps ev′ ct′ jn′ k (map (input ev′ ct′ jn′ hs) js))
+      (r-leastSteps k (map (input ev ct jn gs) js) (map (input ev′ ct′ jn′ hs) js) (r-inputs gs hs p js below))
 
   r-next : (gs : List X) (hs : List Y) → Pairs R gs hs → (g : Gate) → GateBelow n g → Pairs R (gs ++ (value ev ct jn gs g ∷ [])) (hs ++ (value ev′ ct′ jn′ hs g ∷ []))
   r-next gs hs p g b = pairs-append gs (value ev ct jn gs g ∷ []) hs (value ev′ ct′ jn′ hs g ∷ []) p (r-value gs hs p g b, tt)

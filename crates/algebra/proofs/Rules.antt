@@ -7,7 +7,7 @@ use Prim.Native.Nat.{ℕ}
 use lib.Dec.{leb}
 use Rattle.paper.specs.Sets.{Set}
 use Rattle.paper.specs.Functions.{Fun}
-use Rattle.paper.specs.Trees.{Input, event, gate, Gate, andG, orG, leastG, eventF, constF, everyFails, someFails, countFails, inputFun, gateFun, gateFunsFrom, gateFuns, TreeBelow}
+use Rattle.paper.specs.Trees.{Input, event, gate, Gate, andG, orG, leastG, distinctInputs, eventF, constF, everyFails, someFails, countFails, inputFun, gateFun, gateFunsFrom, gateFuns, TreeBelow}
 use Rattle.paper.specs.Steps.{joinAll, input, value, valuesFrom, joinF}
 use Rattle.algebra.specs.Operations.{gateDiagrams}
 use Rattle.algebra.proofs.Gates.{Pairs, Shows, all-law, some-law, least-law, values-show}
@@ -28,7 +28,8 @@ some-rule (F ∷ Fs) v = some-law F Fs v
 pub value-rule : (gs : List Fun) (g : Gate) → value eventF constF joinF gs g ≡ gateFun gs g
 value-rule gs (andG is) = fun-ext (λ v. all-rule (map (input eventF constF joinF gs) is) v ∙ ap (λ l. everyFails l v) (inputs-rule gs is))
 value-rule gs (orG is) = fun-ext (λ v. some-rule (map (input eventF constF joinF gs) is) v ∙ ap (λ l. someFails l v) (inputs-rule gs is))
-value-rule gs (leastG k is) = fun-ext (λ v. least-law k (map (input eventF constF joinF gs) is) v ∙ ap (λ l. leb k (countFails l v)) (inputs-rule gs is))
+value-rule gs (leastG k is) =
+    fun-ext (λ v. least-law k (map (input eventF constF joinF gs) (distinctInputs is)) v ∙ ap (λ l. leb k (countFails l v)) (inputs-rule gs (distinctInputs is)))
 
 pub values-rule : (gs : List Fun) (t : List Gate) → valuesFrom eventF constF joinF gs t ≡ gateFunsFrom gs t
 values-rule gs [] = refl

@@ -13,6 +13,7 @@ use Rattle.records.specs.Memory.{pad, memory}
 use Rattle.records.specs.Trees.{Lawful}
 use Rattle.records.specs.declared.Tree.{Tree}
 use Rattle.records.proofs.Pad.{pad-take, pad-length}
+use Rattle.trees.proofs.Lawful.{least-few}
 use Rattle.trees.proofs.InMemory.{pad-at}
 use Rattle.build.specs.Memory.{startOf, Plan, Arrays}
 
@@ -33,7 +34,7 @@ plan-pad b l = record {
 }
   where
     go : (g : ℕ) → g < length (b .sizes) → Dec (getD (b .kinds) g 0 ≡ 4) → getD (b .leasts) g 0 ≤ getD (b .sizes) g 0
-    go g h (yes e) = l .leasts g h e .1
+    go g h (yes e) = least-few l g h e
     go g h (no n) = let z = l .plain g h n in omega arith
 
 pub arrays-memory : (b : Book) → Lawful limits b → Arrays (memory b)

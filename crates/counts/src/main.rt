@@ -164,6 +164,7 @@ fn main() {
     show(b"case5", true);
     show(b"one_input", true);
     show(b"twice", true);
+    show(b"one_function", true);
     show(b"and_of_3", true);
     show(b"3_of_3", true);
     show(b"or_of_3", true);

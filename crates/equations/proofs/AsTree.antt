@@ -8,14 +8,18 @@ use Prim.Native.Nat.{ℕ, suc, _+_, _-_, _≤_, _<_}
 use native.Mathlib.Omega.{arith}
 use lib.Dec.{eqb}
 use lib.ListN.{length, getD, take, drop, length-take, length-drop, take-append-drop}
+use lib.Seq.{drop-drop}
 use borrow.Author.Tests.{lt-ltb, le-ltb, eqb-true, eqb-false}
 use Rattle.paper.specs.Limits.{limits, billion}
 use Rattle.paper.specs.Lists.{In, sum}
-use Rattle.paper.specs.Trees.{Input, event, gate, Gate, TreeBelow}
+use Rattle.paper.specs.Trees.{Input, event, gate, Gate, distinctInputs, TreeBelow}
 use Rattle.paper.specs.Flat.{gatesFrom, inputOf, gateOf, gatesOf}
 use Rattle.paper.specs.Importing.{inputsTo}
+use Rattle.twins.specs.Distinct.{distinctCodes}
+use Rattle.twins.proofs.Inputs.{distinct-inputs}
 use Rattle.rules.proofs.Cases.{if-elim, either}
 use Rattle.records.specs.Uses.{among}
+use Rattle.records.specs.Thresholds.{inputsAt, distinctAt}
 use Rattle.records.specs.Judge.{Book}
 use Rattle.records.specs.Memory.{noEvent}
 use Rattle.records.specs.Trees.{Lawful, treeOf}
@@ -47,7 +51,7 @@ among-in x (y ∷ l) e = either (eqb y x) (λ q. inl (sym (eqb-true y x q))) (λ
 
 -- ---- what each gate keeps
 
-gate-fits : (kind k : ℕ) (is : List Input) → (2 ≤ kind) × (kind ≤ 4) → (kind ≡ 4 → (1 ≤ k) × (k ≤ length is)) → LeastFits (gateOf kind k is)
+gate-fits : (kind k : ℕ) (is : List Input) → (2 ≤ kind) × (kind ≤ 4) → (kind ≡ 4 → (1 ≤ k) × (k ≤ length (distinctInputs is))) → LeastFits (gateOf kind k is)
 gate-fits kind k is r f =
     if-elim LeastFits (eqb kind 2) (λ _. tt)
     (λ a. if-elim LeastFits (eqb kind 3) (λ _. tt)
@@ -57,20 +61,21 @@ abbrev Fitting : Gate → Type 0
 Fitting x = (1 ≤ length (inputsTo x)) × (length (inputsTo x) ≤ limits .inputs) × LeastFits x
 
 each-gate : (kinds leasts : List ℕ) (g : ℕ) (sizes inputs : List ℕ) → sum sizes ≡ length inputs
-    → ((x : ℕ) → x < length sizes → (is : List Input) → length is ≡ getD sizes x 0 → Fitting (gateOf (getD kinds (g + x) 0) (getD leasts (g + x) 0) is))
+    → ((x : ℕ) → x < length sizes → (codes : List ℕ) → codes ≡ inputsAt sizes inputs x → length codes ≡ getD sizes x 0
+    → Fitting (gateOf (getD kinds (g + x) 0) (getD leasts (g + x) 0) (map inputOf codes)))
     → (y : Gate) → In y (gatesOf kinds leasts g sizes inputs) → Fitting y
 unfolding gatesOf
 each-gate kinds leasts g [] inputs e f y h = absurd h
 each-gate kinds leasts g (n ∷ sizes) inputs e f y (inl p) =
-    let is = map inputOf (take n inputs) in
-    let long : length is ≡ n = map-length inputOf (take n inputs) ∙ omega (arith, length-take n inputs) in
+    let long : length (take n inputs) ≡ n = omega (arith, length-take n inputs) in
     let own : g + 0 ≡ g = omega arith in
-    subst Fitting (sym p) (subst (λ m. Fitting (gateOf (getD kinds m 0) (getD leasts m 0) is)) own (f 0 (omega arith) is long))
+    subst Fitting (sym p) (subst (λ m. Fitting (gateOf (getD kinds m 0) (getD leasts m 0) (map inputOf (take n inputs)))) own (f 0 (omega arith) (take n inputs) refl long))
 each-gate kinds leasts g (n ∷ sizes) inputs e f y (inr h) =
     each-gate kinds leasts (g + 1) sizes (drop n inputs) (omega (arith, length-drop n inputs))
-    (λ x l is q.
+    (λ x l codes c q.
     let own : g + suc x ≡ g + 1 + x = omega arith in
-    subst (λ m. Fitting (gateOf (getD kinds m 0) (getD leasts m 0) is)) own (f (suc x) (omega arith) is q)) y h
+    subst (λ m. Fitting (gateOf (getD kinds m 0) (getD leasts m 0) (map inputOf codes))) own
+    (f (suc x) (omega arith) codes (c ∙ ap (take (getD sizes x 0)) (drop-drop (sum (take x sizes)) n inputs)) q)) y h
 
 chances-low : (l : List Event) → ((e : ℕ) → e < length l → getD l e noEvent .chance ≤ billion) → (c : ℕ) → In c (map (λ (x : Event). x .chance) l) → c ≤ billion
 chances-low [] f c h = absurd h
@@ -88,12 +93,16 @@ module _ (b : Book) (v : Lawful limits b) where
   unfolding treeOf
   gates-fit =
       each-gate (b .kinds) (b .leasts) 0 (b .sizes) (b .inputs) (v .allInputs)
-      (λ x l is q.
+      (λ x l codes c q.
       let own : x ≡ 0 + x = omega arith in
       let r = v .sizes x l in
-      let long : length (inputsTo (gateOf (getD (b .kinds) x 0) (getD (b .leasts) x 0) is)) ≡ getD (b .sizes) x 0 = ap length (gate-inputs (getD (b .kinds) x 0) (getD (b .leasts) x 0) is) ∙ q in
+      let is = map inputOf codes in
+      let long : length (inputsTo (gateOf (getD (b .kinds) x 0) (getD (b .leasts) x 0) is)) ≡ getD (b .sizes) x 0
+      = ap length (gate-inputs (getD (b .kinds) x 0) (getD (b .leasts) x 0) is) ∙ map-length inputOf codes ∙ q in
+      let own-distinct : length (distinctInputs is) ≡ distinctAt (b .sizes) (b .inputs) x
+      = ap length (distinct-inputs codes) ∙ map-length inputOf (distinctCodes codes) ∙ ap (λ m. length (distinctCodes m)) c in
       subst (λ m. Fitting (gateOf (getD (b .kinds) m 0) (getD (b .leasts) m 0) is)) own
-      (omega (arith, r .0), omega (arith, r .1), gate-fits (getD (b .kinds) x 0) (getD (b .leasts) x 0) is (v .kinds x l) (λ k. let s = v .leasts x l k in (s .0, omega (arith, s .1)))))
+      (omega (arith, r .0), omega (arith, r .1), gate-fits (getD (b .kinds) x 0) (getD (b .leasts) x 0) is (v .kinds x l) (λ k. let s = v .leasts x l k in (s .0, omega (arith, s .1, own-distinct)))))
 
   chances-fit : (c : ℕ) → In c (treeOf b .chances) → c ≤ billion
   unfolding treeOf

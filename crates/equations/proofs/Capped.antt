@@ -11,8 +11,9 @@ use lib.ListN.{length}
 use borrow.Author.Tests.{ltb-true, ltb-false, lt-ltb, le-ltb, eqb-true, eqb-false, eq-eqb, ne-eqb}
 use Rattle.paper.specs.Limits.{limits, billion}
 use Rattle.paper.specs.Lists.{In}
-use Rattle.paper.specs.Trees.{Input, Gate, andG, orG, leastG, Tree}
+use Rattle.paper.specs.Trees.{Input, Gate, andG, orG, leastG, sameInput, distinctInputs, Tree}
 use Rattle.paper.specs.Importing.{orElse, inputsTo, eventsBreak, leastBreaks, tooMany, gateBreaks, gatesBreak, broken}
+use Rattle.twins.proofs.Firsts.{firsts-length}
 use Rattle.rules.proofs.Cases.{either}
 use Rattle.records.specs.Flattened.{sizeOf}
 use Rattle.records.proofs.Breaks.{event-right, gates-first, gates-then}
@@ -78,13 +79,14 @@ gate-same g all (least n k is c) = go (tooMany limits g all (length is)) refl
         let b = or-none (eqb (length is) 0) _ (a .1) in
         let d = or-none (ltb (limits .inputs) (length is)) _ (b .1) in
         let s : length is ≤ limits .inputs = ltb-false (limits .inputs) (length is) (d .0) in
-        ap (λ t. cond (t || ltb (length is) n) 5 0) (zero-same c) ∙ ap (λ t. cond (eqb k 0 || t) 5 0) (above-same c (length is) (omega arith))
+        let m : ℕ = length (distinctInputs is) in
+        ap (λ t. cond (t || ltb m n) 5 0) (zero-same c) ∙ ap (λ t. cond (eqb k 0 || t) 5 0) (above-same c m (omega (arith, firsts-length sameInput is)))
 
 gate-equal : {x y : Gate} → CappedGate x y → sizeOf y ≤ limits .inputs → leastBreaks y ≡ 0 → y ≡ x
 gate-equal (same x) s b = refl
 gate-equal (least n k is c) s b =
     let r = least-right (leastG k is) b refl in
-    ap (λ m. leastG m is) (capped-exact c (omega (arith, r .1)))
+    ap (λ m. leastG m is) (capped-exact c (omega (arith, r .1, firsts-length sameInput is)))
 
 module _ {f h : ℕ → Gate} where
   pub gates-same : (l : List ℕ) (g all : ℕ) → ((x : ℕ) → In x l → CappedGate (f x) (h x)) → gatesBreak limits g all (map f l) ≡ gatesBreak limits g all (map h l)
@@ -122,7 +124,7 @@ module _ where
   least-low : (x : Gate) → leastBreaks x ≤ 7
   least-low (andG is) = omega arith
   least-low (orG is) = omega arith
-  least-low (leastG k is) = go (eqb k 0 || ltb (length is) k)
+  least-low (leastG k is) = go (eqb k 0 || ltb (length (distinctInputs is)) k)
     where
       go : (a : Bool) → cond a 5 0 ≤ 7
       go true = omega arith

@@ -9,7 +9,7 @@ use lib.Dec.{eqb}
 use lib.ListN.{length, getD, take}
 use lib.Seq.{getD-take, length-take-le}
 use Rattle.paper.specs.Lists.{In}
-use Rattle.paper.specs.Trees.{Input, event, gate, Gate, andG, orG, leastG}
+use Rattle.paper.specs.Trees.{Input, event, gate, Gate, andG, orG, leastG, distinctInputs}
 use Rattle.paper.specs.Flat.{inputOf, gateOf}
 use Rattle.paper.specs.Diagrams.{Diagram, leaf}
 use Rattle.algebra.proofs.Lists.{in-left}
@@ -24,28 +24,34 @@ use Rattle.atleast.specs.Rules.{leastD, leastStepsD}
 use Rattle.atleast.specs.Making.{Row, Within, Held, Gains}
 use Rattle.atleast.proofs.Making.{row-map, made-seq, made-stops, part-more}
 use Rattle.gates.specs.Kinds.{joinAllD, joinStepsD, kindD, kindStepsD}
-use Rattle.gates.specs.Rules.{inputD, eventStepsD, valueD, stepsD}
+use Rattle.gates.specs.Rules.{inputD, eventStepsD, valueD, stepsD, counted, overD, overStepsD}
 use Rattle.gates.specs.Rows.{Own, Lined}
 use Rattle.gates.proofs.Rows.{codes-long, events-tidy}
 
 module _ (gs : List Diagram) (kind k : ℕ) (is : List Input) where
-  pub value-kind : valueD gs (gateOf kind k is) ≡ kindD kind k (map (inputD gs) is)
+  value-kind : valueD gs (gateOf kind k is) ≡ overD gs kind k (counted kind is)
   value-kind = go (eqb kind 2) (eqb kind 3)
     where
       go : (a b : Bool) → valueD gs (cond a (andG is) (cond b (orG is) (leastG k is)))
-          ≡ cond a (joinAllD false (map (inputD gs) is)) (cond b (joinAllD true (map (inputD gs) is)) (leastD k (map (inputD gs) is)))
+          ≡ (let ds = map (inputD gs) (cond a is (cond b is (distinctInputs is))) in cond a (joinAllD false ds) (cond b (joinAllD true ds) (leastD k ds)))
       go true b = refl
       go false true = refl
       go false false = refl
 
-  pub steps-kind : stepsD gs (gateOf kind k is) ≡ eventStepsD is ++ kindStepsD kind k (map (inputD gs) is)
+  steps-kind : stepsD gs (gateOf kind k is) ≡ overStepsD gs kind k (counted kind is)
   steps-kind = go (eqb kind 2) (eqb kind 3)
     where
       go : (a b : Bool) → stepsD gs (cond a (andG is) (cond b (orG is) (leastG k is)))
-          ≡ eventStepsD is ++ cond a (joinStepsD false (map (inputD gs) is)) (cond b (joinStepsD true (map (inputD gs) is)) (leastStepsD k (map (inputD gs) is)))
+          ≡ (let js = cond a is (cond b is (distinctInputs is)) in let ds = map (inputD gs) js in eventStepsD js ++ cond a (joinStepsD false ds) (cond b (joinStepsD true ds) (leastStepsD k ds)))
       go true b = refl
       go false true = refl
       go false false = refl
+
+  -- A GATE over the inputs that count
+  pub gains-counted : (T : List ℕ) (c : ℕ) (T′ H′ X′ M′ : List ℕ) (r : Built) (js : List Input) → js ≡ counted kind is
+      → Gains (overStepsD gs kind k js) (overD gs kind k js) T c T′ H′ X′ M′ r → Gains (stepsD gs (gateOf kind k is)) (valueD gs (gateOf kind k is)) T c T′ H′ X′ M′ r
+  gains-counted T c T′ H′ X′ M′ r js e g =
+      subst₂ (λ ds D. Gains ds D T c T′ H′ X′ M′ r) (ap (overStepsD gs kind k) e ∙ sym steps-kind) (ap (overD gs kind k) e ∙ sym value-kind) g
 
 -- gates before that are the same, one by one
 module _ (gs hs : List Diagram) (same : (i : ℕ) → getD gs i (leaf false) ≡ getD hs i (leaf false)) where
@@ -57,12 +63,12 @@ module _ (gs hs : List Diagram) (same : (i : ℕ) → getD gs i (leaf false) ≡
   pub value-same : (g : Gate) → valueD gs g ≡ valueD hs g
   value-same (andG is) = ap (joinAllD false) (inputs-same is)
   value-same (orG is) = ap (joinAllD true) (inputs-same is)
-  value-same (leastG k is) = ap (leastD k) (inputs-same is)
+  value-same (leastG k is) = ap (leastD k) (inputs-same (distinctInputs is))
 
   pub steps-same : (g : Gate) → stepsD gs g ≡ stepsD hs g
   steps-same (andG is) = ap (λ xs. eventStepsD is ++ joinStepsD false xs) (inputs-same is)
   steps-same (orG is) = ap (λ xs. eventStepsD is ++ joinStepsD true xs) (inputs-same is)
-  steps-same (leastG k is) = ap (λ xs. eventStepsD is ++ leastStepsD k xs) (inputs-same is)
+  steps-same (leastG k is) = ap (λ xs. eventStepsD (distinctInputs is) ++ leastStepsD k xs) (inputs-same (distinctInputs is))
 
 -- ---- a gate: its inputs, then its kind
 
@@ -109,17 +115,14 @@ module _ {T H X M : List ℕ} {c : ℕ} (G own : List ℕ) (h : Held T H X M c) 
   module _ (kind k : ℕ) where
     pub gate-gains : (T₂ H₂ X₂ M₂ : List ℕ) (r : Built)
         → Gains (kindStepsD kind k (map (den T₁) (take (length own) R))) (kindD kind k (map (den T₁) (take (length own) R))) T₁ c₁ T₂ H₂ X₂ M₂ r
-        → Gains (stepsD gs (gateOf kind k is)) (valueD gs (gateOf kind k is)) T c T₂ H₂ X₂ M₂ r
-    gate-gains T₂ H₂ X₂ M₂ r g =
-        subst₂ (λ ds D. Gains ds D T c T₂ H₂ X₂ M₂ r) (sym (steps-kind gs kind k is)) (sym (value-kind gs kind k is))
-        (go r (subst (λ ds. Gains (kindStepsD kind k ds) (kindD kind k ds) T₁ c₁ T₂ H₂ X₂ M₂ r) is-row g))
+        → Gains (overStepsD gs kind k is) (overD gs kind k is) T c T₂ H₂ X₂ M₂ r
+    gate-gains T₂ H₂ X₂ M₂ r g = go r (subst (λ ds. Gains (kindStepsD kind k ds) (kindD kind k ds) T₁ c₁ T₂ H₂ X₂ M₂ r) is-row g)
       where
-        go : (r : Built) → Gains (kindStepsD kind k (map (inputD gs) is)) (kindD kind k (map (inputD gs) is)) T₁ c₁ T₂ H₂ X₂ M₂ r
-            → Gains (eventStepsD is ++ kindStepsD kind k (map (inputD gs) is)) (kindD kind k (map (inputD gs) is)) T c T₂ H₂ X₂ M₂ r
+        go : (r : Built) → Gains (kindStepsD kind k (map (inputD gs) is)) (overD gs kind k is) T₁ c₁ T₂ H₂ X₂ M₂ r → Gains (overStepsD gs kind k is) (overD gs kind k is) T c T₂ H₂ X₂ M₂ r
         go (Done r c₂) g = record { made = made-seq (kindStepsD kind k (map (inputD gs) is)) (a .made) (g .made); held = g .held; found = g .found }
         go (Short c₂) g = made-stops (kindStepsD kind k (map (inputD gs) is)) (a .made) g
 
 -- an event of its inputs does not fit
 pub gate-short : (gs : List Diagram) (kind k : ℕ) (is : List Input) {T : List ℕ} {c : ℕ} {T₁ H₁ X₁ : List ℕ} {c₁ : ℕ}
-    → Stops (PartOf (eventStepsD is)) T c T₁ H₁ X₁ c₁ → Stops (PartOf (stepsD gs (gateOf kind k is))) T c T₁ H₁ X₁ c₁
-gate-short gs kind k is s = stops-more (part-more (λ d h. subst (λ ds. In d ds) (sym (steps-kind gs kind k is)) (in-left d (eventStepsD is) (kindStepsD kind k (map (inputD gs) is)) h))) s
+    → Stops (PartOf (eventStepsD is)) T c T₁ H₁ X₁ c₁ → Stops (PartOf (overStepsD gs kind k is)) T c T₁ H₁ X₁ c₁
+gate-short gs kind k is s = stops-more (part-more (λ d h. in-left d (eventStepsD is) (kindStepsD kind k (map (inputD gs) is)) h)) s

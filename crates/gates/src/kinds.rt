@@ -12,9 +12,9 @@ ghost use Rattle.atleast.specs.Making.{Within, Held, Gains};
 ghost use Rattle.gates.specs.Kinds.{joinAllD, joinStepsD, kindD, kindStepsD};
 
 // Kinds of gates; any other is at-least.
-const AND: u8 = 2;
+pub const AND: u8 = 2;
 
-const OR: u8 = 3;
+pub const OR: u8 = 3;
 
 // The inputs xs joined from left to right: and with z 0, or with z 1.
 fn joined(

@@ -1,34 +1,41 @@
 -- Where the loop of `survey` stands: a run over the tree's bytes, the writing of the tree, and the arrays for the search of uses.
 -- Assumes nothing.
 use mathlib.Core.Path.{_≡_, refl, sym, ap, _∙_}
+use mathlib.Core.Bool.{Bool, true, false}
 use mathlib.Core.List.{List, []}
-use Prim.Native.Nat.{ℕ, _+_}
+use Prim.Native.Nat.{ℕ, _+_, _-_, _≤_, _<_}
 use native.Mathlib.Omega.{arith}
-use lib.ListN.{length, set}
+use lib.ListN.{length, getD, set}
 use Rattle.paper.specs.Limits.{limits}
 use Rattle.rules.specs.Format.{widthOf}
 use Rattle.rules.specs.Rules.{admitOf, stepOf}
-use Rattle.records.specs.Judge.{Book, start, counts, outcome, closeOf, accept, refuse, answerOf, unusedBy}
+use Rattle.records.specs.Judge.{Book, start, counts, _▷_, addGate, addInput, starved, outcome, closeOf, accept, refuse, answerOf, unusedBy}
+use Rattle.records.specs.Thresholds.{starvedBy}
 use Rattle.rules.specs.States.{pastEvent, pastGate, pastInput}
 use Rattle.records.specs.Memory.{pad}
-use Rattle.judging.specs.Bytes.{bytesOf}
-use Rattle.records.specs.Inner.{Fronts, Ready, Seeks}
+use Rattle.judging.specs.Bytes.{bytesOf, toldLeast}
+use Rattle.records.specs.Inner.{Counted, Fronts, Ready, Seeks}
 use Rattle.judging.specs.Inner.{Own, Sized, Surveyed}
 use Rattle.rules.specs.declared.Answer.{Answer}
-use Rattle.rules.specs.declared.Answer.the-variants.{Done, Unused}
+use Rattle.rules.specs.declared.Answer.the-variants.{Done, Threshold, Unused}
 use Rattle.records.specs.declared.Tree.{Tree}
 use Rattle.rules.specs.declared.format.Record.{Record}
+use Rattle.rules.specs.declared.format.Record.the-variants.{Gate}
 use Rattle.rules.specs.declared.judge.State.{State}
 use Rattle.rules.specs.declared.judge.Step.{Step}
 use Rattle.rules.specs.declared.judge.Step.the-variants.{AddEvent, AddGate, AddInput, Close, Refused}
 use Rattle.records.specs.declared.uses.Found.{Found}
 use Rattle.records.specs.declared.uses.Found.the-variants.{At, Nothing}
+use Rattle.records.proofs.Pad.{length-▷, pad-take}
+use Rattle.records.proofs.Sums.{new}
+use Rattle.records.proofs.Keeping.{Kept}
+use Rattle.records.proofs.Feeding.{input-gate, counted-input, starved-input, place-in}
 use Rattle.records.proofs.Closing.{closes-at, closes-none}
 use Rattle.records.proofs.Standing.{Arrays, arrays-event, arrays-gate, arrays-input, arrays-fronts}
 use Rattle.rules.proofs.Steps.{Sound}
-use Rattle.records.proofs.Runs.{Running, running-start, running-sound, running-event, running-gate, running-input, running-close, running-refused}
-use Rattle.judging.proofs.Rest.{nextRecord}
-use Rattle.judging.proofs.Following.{Following, follow-start, follow-step, follow-event, follow-gate, follow-input, read-back, end-length}
+use Rattle.records.proofs.Runs.{Running, running-start, running-sound, running-event, running-gate, running-input, running-starved, running-close, running-refused}
+use Rattle.judging.proofs.Rest.{nextRecord, gateRecordAt, gate-told}
+use Rattle.judging.proofs.Following.{Following, follow-start, follow-step, follow-event, follow-gate, follow-input, at-gate, read-back, end-length}
 
 -- what the search leaves of the answer
 sized-answer : (b : Book) (f : Found) → f ≡ unusedBy b → (n : ℕ) (a : Answer) (m : ℕ) → Sized f n a m → a ≡ answerOf (closeOf b)
@@ -41,10 +48,40 @@ sized-done b (At p) q n a m s d =
     let z : _≡_ {A = ℕ} 0 1 = cc in absurd (omega arith)
 sized-done b Nothing q n a m s d = (s .1, closes-none b q)
 
+-- a refusal is the answer
+refused-surveyed : {t : Tree} {x a : Answer} {m : ℕ} → outcome limits (bytesOf t) ≡ refuse x → (x ≡ Done → ⊥) → a ≡ x → Surveyed t a m
+refused-surveyed refused not d = record {
+  answer = d ∙ ap answerOf (sym refused);
+  bytes = λ z. absurd (not (sym d ∙ z));
+  accepted = λ z. absurd (not (sym d ∙ z));
+}
+
+-- the last gate that was read has the kind of the tree's, and its k
+pub record LastRead (t : Tree) (b : Book) : Type 0 where
+  pub kind : getD (t .kinds) (length (b .sizes) - 1) 0 ≡ getD (b .kinds) (length (b .sizes) - 1) 0
+  pub least : getD (b .kinds) (length (b .sizes) - 1) 0 ≡ 4 → getD (t .leasts) (length (b .sizes) - 1) 0 ≡ getD (b .leasts) (length (b .sizes) - 1) 0
+
+last-read : (t : Tree) (b : Book) (kind k n next : ℕ) → Kept b → length (b .sizes) < limits .gates → gateRecordAt t (length (b .sizes)) ≡ Gate kind k n
+    → LastRead t (addGate b kind k n next)
+last-read t b kind k n next kept few there =
+    let g : ℕ = length (b .sizes) in
+    let (kinds, leasts, size) = gate-told t g kind k n few there in
+    let last : length (_▷_ (b .sizes) n) - 1 ≡ g = omega (arith, length-▷ (b .sizes) n) in
+    let at-kind : getD (_▷_ (b .kinds) kind) g 0 ≡ kind = new (b .kinds) kind 0 g (kept .sameKinds) in
+    let at-least : getD (_▷_ (b .leasts) k) g 0 ≡ k = new (b .leasts) k 0 g (kept .sameLeasts) in
+    record {
+      kind = rw last (sym kinds ∙ sym at-kind);
+      least = rw last
+          (λ (four : getD (_▷_ (b .kinds) kind) g 0 ≡ 4).
+          let own : getD (t .kinds) g 0 ≡ 4 = sym kinds ∙ sym at-kind ∙ four in
+          sym (at-least ∙ leasts ∙ ap (λ (x : ℕ). toldLeast x (getD (t .leasts) g 0)) own));
+    }
+
 pub record Surveying (t : Tree) (sizes places inputs : List ℕ) (s : State) : Type 0 where
   pub running : Running (bytesOf t) s
   pub following : Following t (bytesOf t) s
   pub arrays : Arrays (running .book) sizes places inputs
+  pub last : 1 ≤ length (running .book .sizes) → LastRead t (running .book)
 
 pub survey-start : (t : Tree) → Surveying t (pad (limits .gates) 0 []) (pad (limits .gates) 0 []) (pad (limits .inAll) 0 []) (counts start)
 unfolding running-start
@@ -52,6 +89,7 @@ survey-start t = record {
   running = running-start (bytesOf t);
   following = follow-start t;
   arrays = record { sizes = refl; places = refl; inputs = refl };
+  last = λ some. absurd (omega arith);
 }
 
 module _ {t : Tree} {sizes places inputs : List ℕ} {s : State} (v : Surveying t sizes places inputs s) where
@@ -71,6 +109,7 @@ module _ {t : Tree} {sizes places inputs : List ℕ} {s : State} (v : Surveying 
       running = running-event (v .running) c next (survey-step q);
       following = follow-event (v .following) e (survey-sound q);
       arrays = arrays-event (v .arrays) c next;
+      last = λ some. record { kind = v .last some .kind; least = v .last some .least };
     }
 
     pub survey-gate : (kind k n next : ℕ) → AddGate kind k n next ≡ admitOf limits (s .at + widthOf r) s r
@@ -83,19 +122,42 @@ module _ {t : Tree} {sizes places inputs : List ℕ} {s : State} (v : Surveying 
           running = running-gate (v .running) kind k n next (survey-step q);
           following = follow-gate (v .following) e on;
           arrays = rw (ap (λ (x : State). x .gates) p, ap (λ (x : State). x .at) p) (arrays-gate (v .arrays) (v .running .kept) kind k n next (rw p at (on .few)));
+          last = λ _. last-read t (v .running .book) kind k n next (v .running .kept) (rw p at (on .few)) (rw p at (sym (at-gate (v .following) e on .2) ∙ on .shape));
         }
 
-    pub survey-input : (i next : ℕ) → AddInput i next ≡ admitOf limits (s .at + widthOf r) s r
-        → Surveying t sizes places (set inputs (s .inputs) i) (pastInput s next)
-    unfolding running-input
-    survey-input i next q =
-        let on = survey-sound q in
-        let p = v .running .state in
-        record {
-          running = running-input (v .running) i next (survey-step q);
-          following = follow-input (v .following) e on;
-          arrays = rw (ap (λ (x : State). x .inputs) p) (arrays-input (v .arrays) (v .running .kept) i next (rw p at (on .some)));
-        }
+    module _ {i next : ℕ} (q : AddInput i next ≡ admitOf limits (s .at + widthOf r) s r) where
+      abbrev fed : Bool
+      fed = starvedBy (t .kinds) (t .leasts) sizes (set inputs (s .inputs) i) (pastInput s next)
+
+      arrays-next : Arrays (addInput (v .running .book) i next) sizes places (set inputs (s .inputs) i)
+      arrays-next =
+          let p = v .running .state in
+          rw (ap (λ (x : State). x .inputs) p) (arrays-input (v .arrays) (v .running .kept) i next (rw p at (survey-sound q .some)))
+
+      pub survey-counted : Counted sizes (pastInput s next)
+      survey-counted = counted-input (v .running) (survey-step q) (rw (v .arrays .sizes) (pad-take _ _ _))
+
+      survey-told : fed ≡ starved (addInput (v .running .book) i next)
+      survey-told =
+          let last = v .last (input-gate (v .running) (survey-step q)) in
+          starved-input (v .running) (survey-step q)
+          (record { kind = last .kind; least = last .least; sizes = rw (arrays-next .sizes) (pad-take _ _ _); inputs = rw (arrays-next .inputs) (pad-take _ _ _) })
+
+      pub survey-input : fed ≡ false → Surveying t sizes places (set inputs (s .inputs) i) (pastInput s next)
+      unfolding running-input
+      survey-input right = record {
+        running = running-input (v .running) i next (survey-step q) (sym survey-told ∙ right);
+        following = follow-input (v .following) e (survey-sound q);
+        arrays = arrays-next;
+        last = λ some. record { kind = v .last some .kind; least = v .last some .least };
+      }
+
+      -- the place of the gate's record
+      pub survey-starved : fed ≡ true → {a : Answer} {m : ℕ} → a ≡ Threshold (getD places (s .gates - 1) 0) → Surveyed t a m
+      survey-starved wrong d =
+          refused-surveyed (running-starved (v .running) i next (survey-step q) (sym survey-told ∙ wrong))
+          (λ z. let y : _≡_ {A = ℕ} 0 1 = cc in omega arith)
+          (d ∙ ap Threshold (place-in (v .running) (survey-step q) (v .arrays .places)))
 
     module _ (q : Close ≡ admitOf limits (s .at + widthOf r) s r) where
       pub survey-ready : Ready sizes places inputs s
@@ -118,11 +180,4 @@ module _ {t : Tree} {sizes places inputs : List ℕ} {s : State} (v : Surveying 
           }
 
     pub survey-refused : (x : Answer) {a : Answer} {m : ℕ} → Refused x ≡ admitOf limits (s .at + widthOf r) s r → a ≡ x → Surveyed t a m
-    survey-refused x q d =
-        let refused : outcome limits (bytesOf t) ≡ refuse x = running-refused (v .running) x (survey-step q) in
-        let not : x ≡ Done → ⊥ = survey-sound q in
-        record {
-          answer = d ∙ ap answerOf (sym refused);
-          bytes = λ z. absurd (not (sym d ∙ z));
-          accepted = λ z. absurd (not (sym d ∙ z));
-        }
+    survey-refused x q d = refused-surveyed (running-refused (v .running) x (survey-step q)) (survey-sound q) d

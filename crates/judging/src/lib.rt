@@ -4,6 +4,7 @@ use paper::GATES;
 use paper::GATES_FROM;
 use paper::IN_ALL;
 use records::Tree;
+use records::thresholds::starved;
 use records::uses::Found;
 use records::uses::unused_in;
 use rules::Answer;
@@ -151,6 +152,10 @@ pub fn survey(t: Tree) -> Written
             Step::AddInput(code, after) => {
                 inputs[i] = code;
                 s = past_input(s, after);
+                if starved(&t.kinds, &t.leasts, &sizes, &inputs, s) {
+                    let gate = places[g - 1];
+                    return unwritten(Answer::Threshold(gate));
+                }
             }
             Step::Close => return surveyed(unused_in(sizes, places, inputs, s), at + 1),
             Step::Refused(answer) => return unwritten(answer),

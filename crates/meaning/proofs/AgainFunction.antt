@@ -12,20 +12,24 @@ use lib.ListN.{getD, length, length-append, List·getD-append}
 use lib.Seq.{getD-append-seam}
 use Rattle.paper.specs.Limits.{limits}
 use Rattle.paper.specs.Lists.{In}
+use Rattle.paper.specs.Bytes.{same}
+use Rattle.paper.specs.Twins.{firsts}
 use Rattle.paper.specs.Sets.{Set}
 use Rattle.paper.specs.Functions.{Fun}
-use Rattle.paper.specs.Trees.{Input, event, gate, Gate, andG, orG, leastG, Tree, events, constF, everyFails, someFails, countFails, inputFun, gateFun, gateFunsFrom, gateFuns, rootFun, InputBelow}
+use Rattle.paper.specs.Trees.{Input, event, gate, Gate, andG, orG, leastG, sameInput, distinctInputs, Tree, events, constF, everyFails, someFails, countFails, inputFun, gateFun, gateFunsFrom, gateFuns, rootFun, InputBelow}
 use Rattle.paper.specs.Meaning.{Names, someName, everyName, countNames, connected, byLine, failsIn}
 use Rattle.paper.specs.Importing.{inputsTo}
 use Rattle.paper.specs.Exporting.{eventName, gateName, inputName}
 use Rattle.records.specs.Trees.{InputLower}
+use Rattle.twins.proofs.Firsts.{firsts-in}
 use Rattle.algebra.proofs.Lists.{last-is}
 use Rattle.meaning.specs.Within.{LeastFits}
 use Rattle.meaning.specs.Exported.{connectiveFor, linesSaid}
 use Rattle.meaning.proofs.Words.{at-in}
 use Rattle.meaning.proofs.Rules.{Rules}
 use Rattle.meaning.proofs.Retold.{noGate}
-use Rattle.meaning.proofs.AgainNames.{below-at, lower-at, gate-line-is, event-line-is}
+use Rattle.meaning.proofs.Twins.{Small, distinct-names}
+use Rattle.meaning.proofs.AgainNames.{below-at, lower-at, input-small, gate-line-is, event-line-is}
 
 -- ---- a gate of one input is that input
 
@@ -55,18 +59,22 @@ module _ (gs : List Fun) (v : Set) (f : Names) where
   count-agree [] a = refl
   count-agree (i ∷ is) a = ap₂ (λ b n. cond b 1 0 + n) (a i (inl refl)) (count-agree is (λ j h. a j (inr h)))
 
-  gate-agree : (x : Gate) → LeastFits x → Agree (inputsTo x) → connected (connectiveFor x (inputsTo x)) f (map inputName (inputsTo x)) ≡ gateFun gs x v
-  gate-agree (andG []) l a = every-agree [] a
-  gate-agree (andG (i ∷ [])) l a = or-one (f (inputName i)) ∙ ap (λ b. b && true) (a i (inl refl))
-  gate-agree (andG (i ∷ j ∷ is)) l a = every-agree (i ∷ j ∷ is) a
-  gate-agree (orG []) l a = some-agree [] a
-  gate-agree (orG (i ∷ [])) l a = some-agree (i ∷ []) a
-  gate-agree (orG (i ∷ j ∷ is)) l a = some-agree (i ∷ j ∷ is) a
-  gate-agree (leastG k []) l a = ap (leb k) (count-agree [] a)
-  gate-agree (leastG k (i ∷ [])) l a =
+  -- an at-least gate over the distinct ones
+  least-agree : (is : List Input) → ((i : Input) → In i is → Small i) → Agree is → countNames f (firsts same (map inputName is)) ≡ countFails (map (inputFun gs) (distinctInputs is)) v
+  least-agree is h a = ap (countNames f) (distinct-names is h) ∙ count-agree (distinctInputs is) (λ i k. a i (firsts-in sameInput i is k))
+
+  gate-agree : (x : Gate) → LeastFits x → ((i : Input) → In i (inputsTo x) → Small i) → Agree (inputsTo x) → connected (connectiveFor x (inputsTo x)) f (map inputName (inputsTo x)) ≡ gateFun gs x v
+  gate-agree (andG []) l h a = every-agree [] a
+  gate-agree (andG (i ∷ [])) l h a = or-one (f (inputName i)) ∙ ap (λ b. b && true) (a i (inl refl))
+  gate-agree (andG (i ∷ j ∷ is)) l h a = every-agree (i ∷ j ∷ is) a
+  gate-agree (orG []) l h a = some-agree [] a
+  gate-agree (orG (i ∷ [])) l h a = some-agree (i ∷ []) a
+  gate-agree (orG (i ∷ j ∷ is)) l h a = some-agree (i ∷ j ∷ is) a
+  gate-agree (leastG k []) l h a = ap (leb k) (count-agree [] a)
+  gate-agree (leastG k (i ∷ [])) l h a =
       let e : 1 ≡ k = omega (arith, l .0, l .1) in
       least-one (f (inputName i)) ∙ ap₂ leb e (count-agree (i ∷ []) a)
-  gate-agree (leastG k (i ∷ j ∷ is)) l a = ap (leb k) (count-agree (i ∷ j ∷ is) a)
+  gate-agree (leastG k (i ∷ j ∷ is)) l h a = ap (leb k) (least-agree (i ∷ j ∷ is) h a)
 
 module _ (t : Tree) (w : Rules limits t) (S : Names) (v : Set) (own : (e : ℕ) → e < events t → S (eventName e) ≡ v e) where
   event-fails : (k e : ℕ) → e < events t → failsIn (linesSaid t) k S (eventName e) ≡ v e
@@ -87,7 +95,7 @@ module _ (t : Tree) (w : Rules limits t) (S : Names) (v : Set) (own : (e : ℕ) 
   gate-fails h gs l r zero q = let b : ⊥ = omega arith in absurd b
   gate-fails h gs l r (suc k) q =
       ap (λ m. byLine m (S (gateName h)) (failsIn (linesSaid t) k S)) (gate-line-is t w h l)
-      ∙ gate-agree gs v (failsIn (linesSaid t) k S) (getD (t .gates) h noGate) (w .within .leasts (getD (t .gates) h noGate) (at-in noGate (t .gates) h l))
+      ∙ gate-agree gs v (failsIn (linesSaid t) k S) (getD (t .gates) h noGate) (w .within .leasts (getD (t .gates) h noGate) (at-in noGate (t .gates) h l)) (input-small t w h l)
       (λ i m. input-fails h gs r k (omega arith) i (below-at (events t) (t .gates) (w .whole .below) h i m) (let z : 0 + h ≡ h = omega arith in subst (λ n. InputLower n i) z (lower-at 0 (t .gates) (w .whole .lower) h i m)))
 
   right-more : (h : ℕ) (gs : List Fun) (x : Gate) → length gs ≡ h → h < length (t .gates) → getD (t .gates) h noGate ≡ x → Right h gs → Right (suc h) (gs ++ (gateFun gs x ∷ []))

@@ -25,6 +25,7 @@ use Rattle.meaning.proofs.Words.{in-dict, dict-in, number-low, at-in, n
 use Rattle.meaning.proofs.Defining.{line-names, input-of}
 use Rattle.meaning.proofs.Decimals.{small, rank, rank-gate, rank-event}
 use Rattle.meaning.proofs.Rules.{Rules}
+use Rattle.meaning.proofs.Twins.{Small}
 use Rattle.meaning.proofs.Retold.{noGate, line-gate, line-event, line-chances, defined-event, defined-chances, names-gate, names-input, NameOf, names-of, chances-nameless, twice-none, wrong-gates, wrong-chances, chance-gates, chance-at, filled-said}
 
 -- ---- the inputs of all gates
@@ -82,6 +83,14 @@ module _ (t : Tree) (w : Rules limits t) where
 
   few-events : 0 + events t ≤ small
   few-events = omega (arith, w .within .fewEvents)
+
+  -- every number can be typed
+  pub input-small : (g : ℕ) → g < N → (i : Input) → In i (inputsTo (getD (t .gates) g noGate)) → Small i
+  input-small g l i h = go i (below-at (events t) (t .gates) (w .whole .below) g i h) (lower-at 0 (t .gates) (w .whole .lower) g i h)
+    where
+      go : (i : Input) → InputBelow (events t) i → InputLower (0 + g) i → Small i
+      go (event e) b c = omega (arith, few-events)
+      go (gate j) b c = omega (arith, few-gates)
 
   -- ---- the lines of names
 

@@ -9,8 +9,10 @@ use native.Mathlib.Omega.{arith}
 use lib.ListN.{getD, length, length-append, length-map}
 use Rattle.paper.specs.Limits.{limits, billion}
 use Rattle.paper.specs.Lists.{In, Once, sum}
-use Rattle.paper.specs.Trees.{Input, Gate, andG, orG, leastG, Tree, events}
-use Rattle.paper.specs.Equations.{dictIn, nameIn, lineIn, rightsOf, numberOf, inputsIn, chanceIn}
+use Rattle.paper.specs.Bytes.{same}
+use Rattle.paper.specs.Twins.{firsts}
+use Rattle.paper.specs.Trees.{Input, Gate, andG, orG, leastG, distinctInputs, Tree, events}
+use Rattle.paper.specs.Equations.{dictIn, nameIn, lineIn, rightsOf, numbers, numberOf, inputsIn, chanceIn}
 use Rattle.paper.specs.Walks.{isEvent}
 use Rattle.paper.specs.Meaning.{eventNames, gateNames, inputFor, gateBy, gateFor, chanceFor, treeSaid}
 use Rattle.paper.specs.Importing.{inputsTo, Says, all-right}
@@ -19,7 +21,7 @@ use Rattle.algebra.proofs.Lists.{map-in}
 use Rattle.meaning.specs.Within.{LeastFits, allInputs, Within}
 use Rattle.meaning.specs.Exported.{gateSays, linesSaid, rootIn, treeAgain}
 use Rattle.meaning.proofs.Words.{number-of-name, at-in}
-use Rattle.meaning.proofs.Defining.{Defines, defined-gate}
+use Rattle.meaning.proofs.Defining.{Defines, defined-gate, line-names}
 use Rattle.meaning.proofs.Naming.{gate-is, gates-once, event-is, events-once}
 use Rattle.meaning.proofs.Whole.{inputs-by}
 use Rattle.meaning.proofs.Limits.{within-unbroken}
@@ -28,19 +30,20 @@ use Rattle.meaning.proofs.Decimals.{numeral, numeral-event, numeral-gat
 use Rattle.meaning.proofs.Sums.{once-map, size-of, sizes-part}
 use Rattle.meaning.proofs.Rules.{Rules}
 use Rattle.meaning.proofs.Retold.{noGate}
-use Rattle.meaning.proofs.AgainNames.{Kind, again-filled, again-rooted, gate-line-is, event-line-is, event-chance-is, number-kind}
+use Rattle.meaning.proofs.Twins.{distinct-named, distinct-names}
+use Rattle.meaning.proofs.AgainNames.{Kind, input-small, again-filled, again-rooted, gate-line-is, event-line-is, event-chance-is, number-kind}
 
 -- a gate that was typed keeps its k
-least-by : (g : ℕ) (x : Gate) (js : List Input) → LeastFits x → length js ≡ length (inputsTo x) → LeastFits (gateBy (gateSays g x) js)
+least-by : (g : ℕ) (x : Gate) (js : List Input) → LeastFits x → length (distinctInputs js) ≡ length (distinctInputs (inputsTo x)) → LeastFits (gateBy (gateSays g x) js)
 least-by g (andG []) js f e = tt
 least-by g (andG (i ∷ [])) js f e = tt
 least-by g (andG (i ∷ j ∷ is)) js f e = tt
 least-by g (orG []) js f e = tt
 least-by g (orG (i ∷ [])) js f e = tt
 least-by g (orG (i ∷ j ∷ is)) js f e = tt
-least-by g (leastG k []) js f e = (f .0, omega (arith, f .1))
+least-by g (leastG k []) js f e = (f .0, subst (λ n. k ≤ n) (sym e) (f .1))
 least-by g (leastG k (i ∷ [])) js f e = tt
-least-by g (leastG k (i ∷ j ∷ is)) js f e = (f .0, omega (arith, f .1))
+least-by g (leastG k (i ∷ j ∷ is)) js f e = (f .0, subst (λ n. k ≤ n) (sym e) (f .1))
 
 module _ (t : Tree) (w : Rules limits t) where
   abbrev root : ℕ
@@ -141,14 +144,26 @@ module _ (t : Tree) (w : Rules limits t) where
       let b = gate-size x h in
       (omega (arith, s .0), omega (arith, s .1))
 
+  -- and as many distinct ones
+  gate-distinct : (x : ℕ) → In x (gateNames (linesSaid t) root)
+      → length (distinctInputs (map (inputFor (linesSaid t) root) (inputsIn (linesSaid t) x))) ≡ length (distinctInputs (inputsTo (getD (t .gates) (numeralIn x) noGate)))
+  unfolding inputsIn
+  gate-distinct x h =
+      let (l, q) = gate-numeral x h in
+      let is = inputsTo (getD (t .gates) (numeralIn x) noGate) in
+      let ys = rightsOf (lineIn (nameIn (linesSaid t) x) (linesSaid t)) in
+      let e : ys ≡ map inputName is = ap rightsOf (ap (λ v. lineIn v (linesSaid t)) q ∙ gate-line-is t w (numeralIn x) l) in
+      ap length (distinct-named (again-rooted t w) ys (λ y k. line-names (nameIn (linesSaid t) x) y (linesSaid t) k))
+      ∙ length-map (numbers (dictIn (linesSaid t)) (firsts same ys)) (inputFor (linesSaid t) root) ∙ length-map (firsts same ys) (λ v. numberOf v (dictIn (linesSaid t)))
+      ∙ ap (λ zs. length (firsts same zs)) e ∙ ap length (distinct-names is (input-small t w (numeralIn x) l)) ∙ length-map (distinctInputs is) inputName
+
   least-fits : (x : ℕ) → In x (gateNames (linesSaid t) root) → LeastFits (gateFor (linesSaid t) root x)
-  unfolding size-of
   least-fits x h =
       let (l, q) = gate-numeral x h in
       let e : lineIn (nameIn (linesSaid t) x) (linesSaid t) ≡ gateSays (numeralIn x) (getD (t .gates) (numeralIn x) noGate) = ap (λ v. lineIn v (linesSaid t)) q ∙ gate-line-is t w (numeralIn x) l in
       subst (λ m. LeastFits (gateBy m (map (inputFor (linesSaid t) root) (inputsIn (linesSaid t) x)))) (sym e)
       (least-by (numeralIn x) (getD (t .gates) (numeralIn x) noGate) (map (inputFor (linesSaid t) root) (inputsIn (linesSaid t) x))
-      (w .within .leasts (getD (t .gates) (numeralIn x) noGate) (at-in noGate (t .gates) (numeralIn x) l)) (length-map (inputsIn (linesSaid t) x) (inputFor (linesSaid t) root) ∙ gate-size x h))
+      (w .within .leasts (getD (t .gates) (numeralIn x) noGate) (at-in noGate (t .gates) (numeralIn x) l)) (gate-distinct x h))
 
   all-sizes : (l : List ℕ) → ((x : ℕ) → In x l → In x (gateNames (linesSaid t) root))
       → length (allInputs (map (gateFor (linesSaid t) root) l)) ≡ sum (map (size-of (t .gates)) (map numeralIn l))

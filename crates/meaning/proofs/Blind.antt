@@ -9,7 +9,8 @@ use lib.ListN.{getD}
 use Rattle.paper.specs.Lists.{lastOr}
 use Rattle.paper.specs.Sets.{Set}
 use Rattle.paper.specs.Functions.{Fun}
-use Rattle.paper.specs.Trees.{Input, event, gate, Gate, andG, orG, leastG, constF, everyFails, someFails, countFails, inputFun, gateFun, gateFunsFrom, gateFuns, rootFun, InputBelow, InputsBelow, GateBelow, TreeBelow}
+use Rattle.paper.specs.Trees.{Input, event, gate, Gate, andG, orG, leastG, distinctInputs, constF, everyFails, someFails, countFails, inputFun, gateFun, gateFunsFrom, gateFuns, rootFun, InputBelow, InputsBelow, GateBelow, TreeBelow}
+use Rattle.twins.proofs.Inputs.{distinct-below}
 
 -- two sets with the same events below n
 abbrev pub Alike : ℕ → Set → Set → Type 0
@@ -60,7 +61,7 @@ module _ (n : ℕ) where
   blind-gate : (gs : List Fun) → AllBlind gs → (x : Gate) → GateBelow n x → Blind n (gateFun gs x)
   blind-gate gs b (andG is) l v u h = every-blind v u h (map (inputFun gs) is) (blind-row gs b is l)
   blind-gate gs b (orG is) l v u h = some-blind v u h (map (inputFun gs) is) (blind-row gs b is l)
-  blind-gate gs b (leastG k is) l v u h = ap (leb k) (count-blind v u h (map (inputFun gs) is) (blind-row gs b is l))
+  blind-gate gs b (leastG k is) l v u h = ap (leb k) (count-blind v u h (map (inputFun gs) (distinctInputs is)) (blind-row gs b (distinctInputs is) (distinct-below n is l)))
 
   blind-from : (gs : List Fun) → AllBlind gs → (xs : List Gate) → TreeBelow n xs → AllBlind (gateFunsFrom gs xs)
   blind-from gs b [] l = b

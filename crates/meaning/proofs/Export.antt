@@ -10,7 +10,7 @@ use lib.Dec.{leb}
 use lib.ListN.{length, length-append, getD}
 use Rattle.paper.specs.Limits.{limits, billion}
 use Rattle.paper.specs.Lists.{In, every}
-use Rattle.paper.specs.Trees.{Input, event, gate, Gate, andG, orG, leastG, Tree, events, rootFun}
+use Rattle.paper.specs.Trees.{Input, event, gate, Gate, andG, orG, leastG, sameInput, Tree, events, rootFun}
 use Rattle.paper.specs.Chance.{total}
 use Rattle.paper.specs.Grammar.{chance, equation, at-least, isName, lineOf, andWord, orWord, comma, equals, atLeastWord, inWord, blank, chanceWord}
 use Rattle.paper.specs.Texts.{says, lineFeed, linesFrom, linesOf}
@@ -18,6 +18,7 @@ use Rattle.paper.specs.Importing.{inputsTo}
 use Rattle.paper.specs.Spelling.{join, chanceLine}
 use Rattle.paper.specs.Exporting.{decimal, eventName, gateName, inputName, rightSide, gateLine, gateLines, chanceLines, textOf}
 use Rattle.records.specs.Flattened.{LawfulTree}
+use Rattle.twins.proofs.Firsts.{firsts-length}
 use Rattle.algebra.proofs.Lists.{in-flat}
 use Rattle.lines.proofs.Spelling.{spelled-or, spelled-and, spelled-least, spelled-chance}
 use Rattle.meaning.specs.Within.{LeastFits}
@@ -96,7 +97,7 @@ gate-spelled g (orG (i ∷ j ∷ is)) l a b f n = spelled-or (gateName g) (gate-
 gate-spelled g (leastG k []) l a b f n = let z : ⊥ = omega arith in absurd z
 gate-spelled g (leastG k (i ∷ [])) l a b f n = spelled-or (gateName g) (gate-is-name g l) (inputName i) [] n
 gate-spelled g (leastG k (i ∷ j ∷ is)) l a b f n =
-    let q : k < small = omega (arith, f .1) in
+    let q : k < small = omega (arith, f .1, firsts-length sameInput (i ∷ j ∷ is)) in
     spelled-least (gateName g) (gate-is-name g l) (decimal k) (decimal-number k q) (inputName i) (map inputName (j ∷ is)) n
     ∙ ap (λ m. equation (gateName g) (at-least m) (map inputName (i ∷ j ∷ is))) (value-decimal k q)
 

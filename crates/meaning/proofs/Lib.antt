@@ -1,4 +1,4 @@
--- Lists of numbers; walks and words; the line, the events and the gates of each name; what a tree that a text says means, its limits and its rules;
+-- Lists of numbers; walks and words; the line, the events and the gates of each name; twins; what a tree that a text says means, its limits and its rules;
 -- one answer to each text; and what a tree's own text says: its lines, its names, its function, its cuts, its exact chance.
 pub mod Few
 pub mod Less
@@ -7,6 +7,8 @@ pub mod Words
 pub mod Defining
 pub mod Gates
 pub mod Naming
+pub mod Decimals
+pub mod Twins
 pub mod Means
 pub mod Typed
 pub mod Limits
@@ -15,7 +17,6 @@ pub mod Whole
 pub mod Once
 pub mod Chances
 pub mod OfTexts
-pub mod Decimals
 pub mod Retold
 pub mod AgainNames
 pub mod Sums

@@ -11,7 +11,7 @@ use lib.Dec.{leb, ltb, eqb}
 use lib.ListN.{length, length-append}
 use Rattle.paper.specs.Limits.{Limits, billion}
 use Rattle.paper.specs.Lists.{In}
-use Rattle.paper.specs.Trees.{Gate, andG, orG, leastG, Tree, events}
+use Rattle.paper.specs.Trees.{Gate, andG, orG, leastG, distinctInputs, Tree, events}
 use Rattle.paper.specs.Importing.{orElse, eventsBreak, inputsTo, leastBreaks, tooMany, gateBreaks, gatesBreak, broken}
 use Rattle.meaning.specs.Within.{LeastFits, allInputs, Within}
 
@@ -66,17 +66,17 @@ least-fits : (x : Gate) → leastBreaks x ≡ 0 → LeastFits x
 least-fits (andG is) e = tt
 least-fits (orG is) e = tt
 least-fits (leastG k is) e =
-    let (a, b) = passes (eqb k 0 || ltb (length is) k) 5 0 (omega arith) e in
-    let (c, d) = no-or (eqb k 0) (ltb (length is) k) a in
+    let (a, b) = passes (eqb k 0 || ltb (length (distinctInputs is)) k) 5 0 (omega arith) e in
+    let (c, d) = no-or (eqb k 0) (ltb (length (distinctInputs is)) k) a in
     let n = eqb-false k 0 c in
-    (omega arith, ltb-false (length is) k d)
+    (omega arith, ltb-false (length (distinctInputs is)) k d)
 
 least-unbroken : (x : Gate) → LeastFits x → leastBreaks x ≡ 0
 least-unbroken (andG is) f = refl
 least-unbroken (orG is) f = refl
 least-unbroken (leastG k is) f =
     let n : k ≡ 0 → ⊥ = λ e. omega (arith, f .0) in
-    rw (ne-eqb k 0 n, le-ltb (length is) k (f .1)) refl
+    rw (ne-eqb k 0 n, le-ltb (length (distinctInputs is)) k (f .1)) refl
 
 record GateFits (L : Limits) (g all : ℕ) (x : Gate) : Type 0 where
   few : g < L .gates

@@ -11,15 +11,18 @@ use lib.Dec.{leb}
 use lib.ListN.{getD, length, length-append, List·getD-append}
 use lib.Seq.{getD-append-seam}
 use Rattle.paper.specs.Lists.{In}
+use Rattle.paper.specs.Bytes.{same}
+use Rattle.paper.specs.Twins.{firsts}
 use Rattle.paper.specs.Sets.{Set}
 use Rattle.paper.specs.Functions.{Fun}
-use Rattle.paper.specs.Trees.{event, gate, constF, everyFails, someFails, countFails, inputFun, gateFun, gateFunsFrom, gateFuns, rootFun}
+use Rattle.paper.specs.Trees.{event, gate, distinctInputs, constF, everyFails, someFails, countFails, inputFun, gateFun, gateFunsFrom, gateFuns, rootFun}
 use Rattle.paper.specs.Grammar.{Line, bad, chance, equation, by-or, by-and, at-least}
 use Rattle.paper.specs.Texts.{Placed}
-use Rattle.paper.specs.Equations.{dictIn, nameIn, lineIn, rightsOf, numbers, numberOf, inputsIn}
+use Rattle.paper.specs.Equations.{dictIn, nameIn, namesIn, lineIn, rightsOf, numbers, numberOf, inputsIn}
 use Rattle.paper.specs.Walks.{isEvent}
 use Rattle.paper.specs.Meaning.{Names, someName, everyName, countNames, byLine, failsIn, eventNames, gateNames, placeIn, inputFor, gateBy, gateFor, treeSaid}
 use Rattle.paper.specs.Importing.{Rooted}
+use Rattle.twins.proofs.Firsts.{firsts-in}
 use Rattle.algebra.proofs.Lists.{in-map, last-is}
 use Rattle.depthfirst.proofs.Counting.{place-low, place-is}
 use Rattle.depthfirst.proofs.Answers.{LastIs}
@@ -28,6 +31,7 @@ use Rattle.meaning.proofs.Words.{place-front, name-of-number, number-of
 use Rattle.meaning.proofs.Defining.{line-names, line-filled}
 use Rattle.meaning.proofs.Gates.{Behind}
 use Rattle.meaning.proofs.Naming.{gate-is, gates-few, gates-order, root-last}
+use Rattle.meaning.proofs.Twins.{distinct-named}
 
 -- ---- an event fails by itself
 
@@ -94,13 +98,18 @@ module _ {ls : List Placed} {root : ℕ} (filled : AllFilled ls) (r : Rooted ls 
     count-agree [] a = refl
     count-agree (y ∷ ys) a = ap₂ (λ b n. cond b 1 0 + n) (a y (inl refl)) (count-agree ys (λ z h. a z (inr h)))
 
-    by-line : (l : Line) → isEvent (numbers (dictIn ls) (rightsOf l)) ≡ false → Agree (rightsOf l) → (own : Bool)
+    -- an at-least gate over the distinct ones
+    least-agree : (ys : List (List ℕ)) → ((y : List ℕ) → In y ys → In y (namesIn ls)) → Agree ys
+        → countFails (map (inputFun gs) (distinctInputs (map (inputFor ls root) (numbers (dictIn ls) ys)))) v ≡ countNames f (firsts same ys)
+    least-agree ys h a = ap (λ is. countFails (map (inputFun gs) is) v) (distinct-named r ys h) ∙ count-agree (firsts same ys) (λ y k. a y (firsts-in same y ys k))
+
+    by-line : (l : Line) → isEvent (numbers (dictIn ls) (rightsOf l)) ≡ false → ((y : List ℕ) → In y (rightsOf l) → In y (namesIn ls)) → Agree (rightsOf l) → (own : Bool)
         → gateFun gs (gateBy l (map (inputFor ls root) (numbers (dictIn ls) (rightsOf l)))) v ≡ byLine l own f
-    by-line bad e a own = absurd (true≢false e)
-    by-line (chance x n) e a own = absurd (true≢false e)
-    by-line (equation x by-or ys) e a own = some-agree ys a
-    by-line (equation x by-and ys) e a own = every-agree ys a
-    by-line (equation x (at-least k) ys) e a own = ap (leb k) (count-agree ys a)
+    by-line bad e h a own = absurd (true≢false e)
+    by-line (chance x n) e h a own = absurd (true≢false e)
+    by-line (equation x by-or ys) e h a own = some-agree ys a
+    by-line (equation x by-and ys) e h a own = every-agree ys a
+    by-line (equation x (at-least k) ys) e h a own = ap (leb k) (least-agree ys h a)
 
   -- ---- gate after gate
 
@@ -117,7 +126,7 @@ module _ {ls : List Placed} {root : ℕ} (filled : AllFilled ls) (r : Rooted ls 
     gate-means : (k : ℕ) → length before < k → gateFun gs (gateFor ls root x) v ≡ failsIn ls k S (nameIn ls x)
     unfolding inputsIn failsIn
     gate-means zero l = let b : ⊥ = omega arith in absurd b
-    gate-means (suc k) l = by-line gs (failsIn ls k S) (lineIn (nameIn ls x) ls) own (agree k (omega arith)) (S (nameIn ls x))
+    gate-means (suc k) l = by-line gs (failsIn ls k S) (lineIn (nameIn ls x) ls) own (λ y h. line-names (nameIn ls x) y ls h) (agree k (omega arith)) (S (nameIn ls x))
 
     right-more : Right (before ++ (x ∷ [])) (gs ++ (gateFun gs (gateFor ls root x) ∷ []))
     right-more j h k l = go (decLt j (length before)) (rw length-append at h)

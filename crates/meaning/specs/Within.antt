@@ -5,14 +5,14 @@ use Prim.Native.Nat.{ℕ, _≤_}
 use lib.ListN.{length}
 use Rattle.paper.specs.Limits.{Limits, billion}
 use Rattle.paper.specs.Lists.{In, flat}
-use Rattle.paper.specs.Trees.{Input, Gate, andG, orG, leastG, Tree, events}
+use Rattle.paper.specs.Trees.{Input, Gate, andG, orG, leastG, distinctInputs, Tree, events}
 use Rattle.paper.specs.Importing.{inputsTo}
 
--- at least k of n inputs: k is 1 to n
+-- at least k of n distinct inputs: k is 1 to n
 abbrev pub LeastFits : Gate → Type 0
 LeastFits (andG is) = Unit {0}
 LeastFits (orG is) = Unit {0}
-LeastFits (leastG k is) = (1 ≤ k) × (k ≤ length is)
+LeastFits (leastG k is) = (1 ≤ k) × (k ≤ length (distinctInputs is))
 
 -- the inputs of all gates, in a row
 abbrev pub allInputs : List Gate → List Input

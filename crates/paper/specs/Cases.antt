@@ -1,4 +1,4 @@
--- The paper's cases 1 to 8, and the counts of small gates beside them, held against the definitions: one table, one statement.
+-- The paper's cases 1 to 8, the counts of small gates beside them, and twins, held against the definitions: one table, one statement.
 -- Assumes nothing.
 use mathlib.Core.Path.{_≡_, refl}
 use mathlib.Core.Bool.{Bool, true, false, cond}
@@ -122,6 +122,16 @@ one g = three (g ∷ [])
 rare : Tree
 rare = record { chances = 1 ∷ 1 ∷ []; gates = andG (event 0 ∷ event 1 ∷ []) ∷ [] }
 
+-- at least 2 of a, a and b; of two gates with one function, and b; of an event and the gate of its number
+twins : Tree
+twins = two (leastG 2 (event 0 ∷ event 0 ∷ event 1 ∷ []) ∷ [])
+
+oneFunction : Tree
+oneFunction = two (orG (event 0 ∷ []) ∷ andG (event 0 ∷ []) ∷ leastG 2 (gate 0 ∷ gate 1 ∷ event 1 ∷ []) ∷ [])
+
+oneNumber : Tree
+oneNumber = two (orG (event 1 ∷ []) ∷ leastG 2 (event 0 ∷ gate 0 ∷ []) ∷ [])
+
 row : Tree → Question → Answer → Row
 row t q a = record { tree = t; asked = q; answered = a }
 
@@ -170,11 +180,16 @@ table =
     ∷ row (one (andG (event 0 ∷ event 1 ∷ event 2 ∷ []))) nodes (number 6)
     -- 8
     ∷ row rare chance (bracket 2 2 0 1 1)
+    -- a twin counts once
+    ∷ row twins cuts (sets ((0 ∷ 1 ∷ []) ∷ []))
+    ∷ row twins nodes (number 3)
+    ∷ row oneFunction cuts (sets ((0 ∷ []) ∷ []))
+    ∷ row oneNumber cuts (sets ((0 ∷ 1 ∷ []) ∷ []))
     ∷ []
 
 -- THE CASES
 as-the-paper-says : map (λ r. define (r .tree) (r .asked)) table ≡ map (λ r. r .answered) table
-unfolding define these full listingOf bracketOf gateOf cutsOf tenth three two first sixth absorbed twoOfThree reversed fourGates one rare row table
+unfolding define these full listingOf bracketOf gateOf cutsOf tenth three two first sixth absorbed twoOfThree reversed fourGates one rare twins oneFunction oneNumber row table
     gateFuns rootFun stepFuns nodesNeeded cutList cutNodesNeeded dependsOn memberBytes cutBytes fitting listed total ℕ-discrete
 as-the-paper-says = refl
 

@@ -7,7 +7,7 @@ use Prim.Native.Nat.{ℕ, zero, suc, _+_}
 use lib.Dec.{leb, ltb, eqb}
 use lib.ListN.{length}
 use Rattle.paper.specs.Limits.{Limits, limits, billion}
-use Rattle.paper.specs.Trees.{Input, Gate, andG, orG, leastG, Tree}
+use Rattle.paper.specs.Trees.{Input, Gate, andG, orG, leastG, distinctInputs, Tree}
 use Rattle.paper.specs.Texts.{Placed, linesOf}
 use Rattle.paper.specs.Equations.{dictIn, inputsIn, wrongIn, twiceIn}
 use Rattle.paper.specs.Walks.{LeadsBack, OneRoot}
@@ -30,11 +30,11 @@ inputsTo (andG is) = is
 inputsTo (orG is) = is
 inputsTo (leastG k is) = is
 
--- k of an at-least gate is 0 or above the number of its inputs
+-- k of an at-least gate is 0 or above the number of its distinct inputs
 abbrev pub leastBreaks : Gate → ℕ
 leastBreaks (andG is) = 0
 leastBreaks (orG is) = 0
-leastBreaks (leastG k is) = cond (eqb k 0 || ltb (length is) k) 5 0
+leastBreaks (leastG k is) = cond (eqb k 0 || ltb (length (distinctInputs is)) k) 5 0
 
 -- gate number g of n inputs, with so many inputs in all before it
 abbrev pub tooMany : Limits → ℕ → ℕ → ℕ → Bool

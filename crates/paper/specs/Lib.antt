@@ -1,6 +1,7 @@
 -- What the analyser promises is said in these definitions, one file for each idea.
 pub mod Limits
 pub mod Lists
+pub mod Twins
 pub mod Sets
 pub mod Functions
 pub mod Trees

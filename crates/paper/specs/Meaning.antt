@@ -5,6 +5,8 @@ use mathlib.Core.List.{List, [], _∷_, map}
 use Prim.Native.Nat.{ℕ, zero, suc, _+_}
 use lib.Dec.{leb, eqb}
 use lib.ListN.{length}
+use Rattle.paper.specs.Bytes.{same}
+use Rattle.paper.specs.Twins.{firsts}
 use Rattle.paper.specs.Trees.{Input, event, gate, Gate, andG, orG, leastG, Tree}
 use Rattle.paper.specs.Grammar.{Line, bad, chance, equation, Connective, by-or, by-and, at-least}
 use Rattle.paper.specs.Texts.{Placed}
@@ -29,11 +31,11 @@ abbrev pub countNames : Names → List (List ℕ) → ℕ
 countNames f [] = 0
 countNames f (y ∷ ys) = cond (f y) 1 0 + countNames f ys
 
--- a connective over names, f telling which of them fail
+-- a connective over names, f telling which of them fail; a name that stands twice in an at-least counts once
 abbrev pub connected : Connective → Names → List (List ℕ) → Bool
 connected by-or f ys = someName f ys
 connected by-and f ys = everyName f ys
-connected (at-least k) f ys = leb k (countNames f ys)
+connected (at-least k) f ys = leb k (countNames f (firsts same ys))
 
 -- a name by the line that defines it; by itself where none does
 abbrev pub byLine : Line → Bool → Names → Bool

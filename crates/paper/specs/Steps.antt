@@ -7,7 +7,7 @@ use Prim.Native.Nat.{ℕ, zero, suc}
 use lib.Dec.{leb}
 use lib.ListN.{length, getD}
 use Rattle.paper.specs.Functions.{Fun}
-use Rattle.paper.specs.Trees.{Input, event, gate, Gate, andG, orG, leastG, eventF, constF}
+use Rattle.paper.specs.Trees.{Input, event, gate, Gate, andG, orG, leastG, distinctInputs, eventF, constF}
 
 -- events, constants and joins: jn z x y is `and` with z false, `or` with z true
 module _ {X : Type 0} (ev : ℕ → X) (ct : Bool → X) (jn : Bool → X → X → X) where
@@ -51,9 +51,9 @@ module _ {X : Type 0} (ev : ℕ → X) (ct : Bool → X) (jn : Bool → X → X 
   abbrev pub value : List X → Gate → X
   value gs (andG is) = joinAll false (map (input gs) is)
   value gs (orG is) = joinAll true (map (input gs) is)
-  value gs (leastG k is) = least k (map (input gs) is)
+  value gs (leastG k is) = least k (map (input gs) (distinctInputs is))
 
-  -- an event is made where a gate uses it
+  -- an event is made where a gate uses it; an at-least gate's steps run over its distinct inputs
   abbrev pub eventSteps : List Input → List X
   eventSteps [] = []
   eventSteps (event e ∷ is) = ev e ∷ eventSteps is
@@ -62,7 +62,7 @@ module _ {X : Type 0} (ev : ℕ → X) (ct : Bool → X) (jn : Bool → X → X 
   abbrev pub steps : List X → Gate → List X
   steps gs (andG is) = eventSteps is ++ joinAllSteps false (map (input gs) is)
   steps gs (orG is) = eventSteps is ++ joinAllSteps true (map (input gs) is)
-  steps gs (leastG k is) = eventSteps is ++ leastSteps k (map (input gs) is)
+  steps gs (leastG k is) = eventSteps (distinctInputs is) ++ leastSteps k (map (input gs) (distinctInputs is))
 
   -- the values of all gates, and their steps, those of the earlier ones given
   abbrev pub valuesFrom : List X → List Gate → List X

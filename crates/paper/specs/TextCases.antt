@@ -1,14 +1,21 @@
 -- Lines and texts as they are typed, held against the grammar and the equations: one table, one statement.
 -- Assumes nothing.
 use mathlib.Core.Path.{_≡_, refl}
+use mathlib.Core.Bool.{Bool, true, false}
 use mathlib.Core.List.{List, [], _∷_, map}
 use Prim.Native.Nat.{ℕ}
+use lib.ListN.{length}
+use Rattle.paper.specs.Limits.{limits}
 use Rattle.paper.specs.Bytes.{letter, digit, letterOrDigit, starts, same, before, behind, partsOn}
 use Rattle.paper.specs.Grammar.{Line, bad, chance, equation, by-or, by-and, at-least, reserved, beginsWith, isName, isNumber, value, isRow, countedOf, rightOf, chanceOf as chanceLineOf, lineOf}
 use Rattle.paper.specs.Texts.{Placed, says, linesFrom, linesOf}
-use Rattle.paper.specs.Equations.{has, with, numberOf, dictIn, inputsIn, chanceIn, twiceIn, wrongIn}
+use Rattle.paper.specs.Equations.{has, with, numberOf, dictIn, nameIn, inputsIn, chanceIn, twiceIn, wrongIn}
+use Rattle.paper.specs.Walks.{visit, meet}
+use Rattle.paper.specs.Meaning.{failsIn, eventNames, gateNames, placeIn, treeSaid}
+use Rattle.paper.specs.Importing.{eventsBreak, gatesBreak, broken}
 
--- what can be asked: of a line, what it says; of a text, its lines, its names, numbers 15 and 16, a name's chance and its inputs
+-- what can be asked: of a line, what it says; of a text, its lines, its names, numbers 15 and 16, a name's chance and its inputs;
+-- of a text whose root is its first name, the limit that its tree breaks, and whether the root fails where these names do
 data Question : Type 0 where
   line : List ℕ → Question
   lines : List ℕ → Question
@@ -17,6 +24,8 @@ data Question : Type 0 where
   sixteen : List ℕ → Question
   chanceOf : List ℕ → List ℕ → Question
   inputs : List ℕ → ℕ → Question
+  limit : List ℕ → Question
+  fails : List ℕ → List (List ℕ) → Question
 
 data Answer : Type 0 where
   said : Line → Answer
@@ -24,6 +33,7 @@ data Answer : Type 0 where
   words : List (List ℕ) → Answer
   number : ℕ → Answer
   numbers : List ℕ → Answer
+  truth : Bool → Answer
 
 record Row : Type 0 where
   asked : Question
@@ -37,6 +47,8 @@ define (fifteen t) = number (wrongIn (linesOf t))
 define (sixteen t) = number (twiceIn (linesOf t))
 define (chanceOf t w) = number (chanceIn w (linesOf t))
 define (inputs t n) = numbers (inputsIn (linesOf t) n)
+define (limit t) = number (broken limits (treeSaid (linesOf t) 0))
+define (fails t ws) = truth (failsIn (linesOf t) (length (dictIn (linesOf t))) (λ w. has w ws) (nameIn (linesOf t) 0))
 
 row : Question → Answer → Row
 row q a = record { asked = q; answered = a }
@@ -64,6 +76,10 @@ doubled = 97 ∷ 32 ∷ 61 ∷ 32 ∷ 98 ∷ 10 ∷ 112 ∷ 32 ∷ 98 ∷ 32 ∷
 -- a = a\n
 ring : List ℕ
 ring = 97 ∷ 32 ∷ 61 ∷ 32 ∷ 97 ∷ 10 ∷ []
+
+-- x = at-least k in a, a, b\n, where k is this digit
+twins : ℕ → List ℕ
+twins k = 120 ∷ 32 ∷ 61 ∷ 32 ∷ 97 ∷ 116 ∷ 45 ∷ 108 ∷ 101 ∷ 97 ∷ 115 ∷ 116 ∷ 32 ∷ k ∷ 32 ∷ 105 ∷ 110 ∷ 32 ∷ 97 ∷ 44 ∷ 32 ∷ 97 ∷ 44 ∷ 32 ∷ 98 ∷ 10 ∷ []
 
 table : List Row
 table =
@@ -171,10 +187,16 @@ table =
     -- a ring of one is in the grammar
     ∷ row (fifteen ring) (number 0)
     ∷ row (inputs ring 0) (numbers (0 ∷ []))
+    -- a name that stands twice counts once: two of a, a, b fail where a and b do; three are above the two distinct names
+    ∷ row (limit (twins 50)) (number 0)
+    ∷ row (fails (twins 50) ((97 ∷ []) ∷ [])) (truth false)
+    ∷ row (fails (twins 50) ((97 ∷ []) ∷ (98 ∷ []) ∷ [])) (truth true)
+    ∷ row (limit (twins 51)) (number 5)
     ∷ []
 
 -- THE CASES
 as-it-is-typed : map (λ r. define (r .asked)) table ≡ map (λ r. r .answered) table
-unfolding define row table three again early lost doubled ring letter digit letterOrDigit starts same before behind partsOn reserved beginsWith isName isNumber value isRow
+unfolding define row table three again early lost doubled ring twins letter digit letterOrDigit starts same before behind partsOn reserved beginsWith isName isNumber value isRow
     countedOf rightOf chanceLineOf lineOf linesFrom linesOf has with numberOf dictIn inputsIn twiceIn wrongIn
+    visit meet failsIn eventNames gateNames placeIn treeSaid eventsBreak gatesBreak broken
 as-it-is-typed = refl

@@ -3,15 +3,27 @@
 use mathlib.Core.Bool.{Bool, true, false, cond, _&&_, _||_}
 use mathlib.Core.List.{List, [], _∷_, _++_, map}
 use Prim.Native.Nat.{ℕ, _+_, _<_}
-use lib.Dec.{leb}
+use lib.Dec.{leb, eqb}
 use lib.ListN.{length, getD}
 use Rattle.paper.specs.Lists.{lastOr}
+use Rattle.paper.specs.Twins.{firsts}
 use Rattle.paper.specs.Sets.{Set}
 use Rattle.paper.specs.Functions.{Fun}
 
 pub data Input : Type 0 where
   event : ℕ → Input
   gate : ℕ → Input
+
+-- the same event, or the same gate; two gates with one function are two
+abbrev pub sameInput : Input → Input → Bool
+sameInput (event a) (event b) = eqb a b
+sameInput (event a) (gate b) = false
+sameInput (gate a) (event b) = false
+sameInput (gate a) (gate b) = eqb a b
+
+-- each input once, at its first place
+abbrev pub distinctInputs : List Input → List Input
+distinctInputs is = firsts sameInput is
 
 -- and, or, at least k
 pub data Gate : Type 0 where
@@ -49,7 +61,7 @@ abbrev pub countFails : List Fun → Set → ℕ
 countFails [] v = 0
 countFails (F ∷ Fs) v = cond (F v) 1 0 + countFails Fs v
 
--- gs are the functions of the gates before
+-- gs are the functions of the gates before; an input that stands twice in an at-least gate counts once
 abbrev pub inputFun : List Fun → Input → Fun
 inputFun gs (event e) = eventF e
 inputFun gs (gate i) = getD gs i (constF false)
@@ -57,7 +69,7 @@ inputFun gs (gate i) = getD gs i (constF false)
 abbrev pub gateFun : List Fun → Gate → Fun
 gateFun gs (andG is) v = everyFails (map (inputFun gs) is) v
 gateFun gs (orG is) v = someFails (map (inputFun gs) is) v
-gateFun gs (leastG k is) v = leb k (countFails (map (inputFun gs) is) v)
+gateFun gs (leastG k is) v = leb k (countFails (map (inputFun gs) (distinctInputs is)) v)
 
 -- the functions of all gates, those of the earlier ones given
 abbrev pub gateFunsFrom : List Fun → List Gate → List Fun

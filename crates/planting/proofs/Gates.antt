@@ -1,18 +1,19 @@
 -- One gate: the limits that it breaks, and what memory holds of it.
 -- Assumes nothing.
-use mathlib.Core.Path.{_≡_, refl, sym}
+use mathlib.Core.Path.{_≡_, refl, sym, _∙_}
 use mathlib.Core.Bool.{Bool, true, false, cond}
 use mathlib.Core.List.{List}
 use Prim.Native.Nat.{ℕ, _+_, _≤_, _<_}
 use native.Mathlib.Omega.{arith}
-use lib.Dec.{ltb, eqb}
+use lib.Dec.{leb, ltb, eqb}
 use lib.ListN.{length}
-use borrow.Author.Tests.{lt-ltb, le-ltb, le-leb, lt-leb, eq-eqb, ne-eqb, eqb-true, eqb-false}
+use borrow.Author.Tests.{lt-ltb, le-ltb, le-leb, lt-leb, eq-eqb, ne-eqb, eqb-true, eqb-false, ltb-false}
 use Rattle.paper.specs.Limits.{limits}
-use Rattle.paper.specs.Trees.{Input, Gate, andG, orG, leastG}
+use Rattle.paper.specs.Trees.{Input, Gate, andG, orG, leastG, distinctInputs}
 use Rattle.paper.specs.Flat.{gateOf}
 use Rattle.paper.specs.Importing.{inputsTo, leastBreaks, tooMany}
 use Rattle.records.specs.Flattened.{kindOf, leastOf}
+use Rattle.records.proofs.Breaks.{either-false}
 use Rattle.planting.specs.Planting.{LeastTold, GateTold, LeastKept}
 
 -- ---- too many
@@ -31,6 +32,14 @@ module _ (g used n : ℕ) where
 
       pub inputs-in-all : n ≤ limits .inputs → ltb (limits .inAll) (used + n) ≡ tooMany limits g used n
       inputs-in-all h = rw (lt-leb 512 g few, ne-eqb n 0 some, le-ltb 64 n h)
+
+  -- a gate that is not too many has no more inputs than a gate may have
+  pub not-many : tooMany limits g used n ≡ false → n ≤ limits .inputs
+  not-many e =
+      let u = either-false (leb (limits .gates) g) _ e in
+      let v = either-false (eqb n 0) _ (u .1) in
+      let w = either-false (ltb (limits .inputs) n) _ (v .1) in
+      ltb-false (limits .inputs) n (w .0)
 
 -- ---- the gate of a kind
 
@@ -54,24 +63,24 @@ gate-kind kind k is h = gate-by (λ x. kindOf x ≡ kind) kind k is (λ e. sym e
 
 -- ---- its k
 
-module _ (kind k n : ℕ) where
-  pub plain-and : kind ≡ 2 → LeastTold kind k n 0
+module _ (kind k d : ℕ) where
+  pub plain-and : kind ≡ 2 → LeastTold kind k d 0
   plain-and e is l = gate-by (λ x. 0 ≡ leastBreaks x) kind k is (λ _. refl) (λ _. refl) (λ a _. absurd (a e))
 
-  pub plain-or : kind ≡ 3 → LeastTold kind k n 0
+  pub plain-or : kind ≡ 3 → LeastTold kind k d 0
   plain-or e is l = gate-by (λ x. 0 ≡ leastBreaks x) kind k is (λ _. refl) (λ _. refl) (λ _ b. absurd (b e))
 
   module _ (a : kind ≡ 2 → ⊥) (b : kind ≡ 3 → ⊥) where
-    pub least-zero : k ≡ 0 → LeastTold kind k n 5
+    pub least-zero : k ≡ 0 → LeastTold kind k d 5
     least-zero e is l = gate-by (λ x. 5 ≡ leastBreaks x) kind k is (λ z. absurd (a z)) (λ z. absurd (b z)) (λ _ _. rw (eq-eqb k 0 e))
 
-    pub least-high : (k ≡ 0 → ⊥) → n < k → LeastTold kind k n 5
+    pub least-high : (k ≡ 0 → ⊥) → d < k → LeastTold kind k d 5
     least-high z h is l =
-        gate-by (λ x. 5 ≡ leastBreaks x) kind k is (λ z. absurd (a z)) (λ z. absurd (b z)) (λ _ _. rw (ne-eqb k 0 z, lt-ltb (length is) k (omega arith)))
+        gate-by (λ x. 5 ≡ leastBreaks x) kind k is (λ z. absurd (a z)) (λ z. absurd (b z)) (λ _ _. rw (ne-eqb k 0 z, lt-ltb (length (distinctInputs is)) k (omega arith)))
 
-    pub least-fine : (k ≡ 0 → ⊥) → k ≤ n → LeastTold kind k n 0
+    pub least-fine : (k ≡ 0 → ⊥) → k ≤ d → LeastTold kind k d 0
     least-fine z h is l =
-        gate-by (λ x. 0 ≡ leastBreaks x) kind k is (λ z. absurd (a z)) (λ z. absurd (b z)) (λ _ _. rw (ne-eqb k 0 z, le-ltb (length is) k (omega arith)))
+        gate-by (λ x. 0 ≡ leastBreaks x) kind k is (λ z. absurd (a z)) (λ z. absurd (b z)) (λ _ _. rw (ne-eqb k 0 z, le-ltb (length (distinctInputs is)) k (omega arith)))
 
 pub kept-least : {kind k : ℕ} → kind ≡ 4 → LeastKept kind k k
 kept-least {kind} {k} e is = gate-by (λ x. k ≡ leastOf x) kind k is (λ z. absurd (omega arith)) (λ z. absurd (omega arith)) (λ _ _. refl)
@@ -84,9 +93,9 @@ kept-plain {kind} k h never is = gate-by (λ x. 0 ≡ leastOf x) kind k is (λ _
 
 -- ---- its number
 
-module _ (g used kind k n : ℕ) {b : Bool} (told : b ≡ tooMany limits g used n) where
-  pub gate-many : b ≡ true → GateTold g used kind k n 4
-  gate-many e is l = rw (gate-inputs kind k is, l, ← told, e)
+module _ (g used kind k n d : ℕ) {b : Bool} (told : b ≡ tooMany limits g used n) where
+  pub gate-many : b ≡ true → GateTold g used kind k n d 4
+  gate-many e is l q = rw (gate-inputs kind k is, l, ← told, e)
 
-  pub gate-least : b ≡ false → {m : ℕ} → LeastTold kind k n m → GateTold g used kind k n m
-  gate-least e t is l = rw (gate-inputs kind k is, l, ← told, e) (t is l)
+  pub gate-least : b ≡ false → {m : ℕ} → LeastTold kind k d m → GateTold g used kind k n d m
+  gate-least e t is l q = rw (gate-inputs kind k is, l, ← told, e) (t is (q (not-many g used n (sym told ∙ e))))

@@ -1,29 +1,30 @@
 -- The gates of an order, put into the arrays of a tree one by one.
 -- Assumes nothing.
 use mathlib.Core.Path.{_≡_, refl, sym, ap, _∙_, subst}
-use mathlib.Core.Bool.{false}
-use mathlib.Core.List.{List, [], _∷_, _++_, map, append-nil}
+use mathlib.Core.Bool.{true, false}
+use mathlib.Core.List.{List, [], _∷_, _++_, map, map-map, append-nil}
 use Prim.Native.Nat.{ℕ, _+_, _≤_, _<_}
 use native.Mathlib.Omega.{arith}
 use lib.ListN.{length, getD, take, drop, set, length-append}
 use lib.Seq.{getD-take, take-take, length-take-le}
 use Rattle.paper.specs.Limits.{limits}
 use Rattle.paper.specs.Lists.{In, flat, sum}
-use Rattle.paper.specs.Trees.{Gate}
+use Rattle.paper.specs.Trees.{Gate, sameInput}
 use Rattle.paper.specs.Walks.{isEvent, eventsOf, gatesOf}
 use Rattle.paper.specs.Importing.{orElse, inputsTo, eventsBreak, gateBreaks, gatesBreak, broken}
+use Rattle.twins.proofs.Firsts.{firsts-length}
 use Rattle.rules.proofs.Cases.{either}
 use Rattle.records.specs.Memory.{pad, memory}
 use Rattle.records.specs.Flattened.{kindOf, leastOf, sizeOf, codeOf, codesOf, eventOf, bookOf}
 use Rattle.records.proofs.Lists.{map-length, map-append, flat-append}
 use Rattle.records.proofs.Pad.{pad-fill}
 use Rattle.records.proofs.Sums.{sum-▷}
-use Rattle.records.proofs.Breaks.{orElse-none, orElse-some, orElse-last, GateRight, gate-right, gates-room, events-few}
+use Rattle.records.proofs.Breaks.{orElse-none, orElse-some, orElse-last, GateRight, gate-right, gates-few, gates-room, events-few}
 use Rattle.records.proofs.Breaks as breaks
 use Rattle.records.proofs.Flattened.{codes-sum, least-right}
 use Rattle.depthfirst.specs.Inputs.{inputsOf}
 use Rattle.planting.specs.Orders.{inputAt, gateAt, chancesAmong, gatesAmong, Sowable, Plantable}
-use Rattle.planting.specs.Planting.{Sows, GatesIn, Plants, PlantsOver, Refuses, GateTold, LeastKept, Putable, Puts}
+use Rattle.planting.specs.Planting.{Sows, GatesIn, Plants, PlantsOver, Refuses, GateTold, LeastKept, Putable, Puts, Sortable, DistinctTold}
 use Rattle.planting.specs.declared.Sown.{Sown}
 use Rattle.planting.specs.declared.Planted.{Planted}
 use Rattle.planting.proofs.Orders.{one-more, the-rest, name-in, none-event, some-gate, events-append, gates-append, in-events, in-gates, turn-low, gates-event, gates-gate, gates-among-append}
@@ -44,11 +45,7 @@ module _ (S I N K L : List ℕ) (x : ℕ) where
   size-is = ap length inputs-are ∙ map-length (inputAt S I N) (inputsOf S I x)
 
   codes-are : codesOf (gateAt S I N K L x) ≡ map (λ y. codeOf (inputAt S I N y)) (inputsOf S I x)
-  codes-are = ap (map codeOf) inputs-are ∙ map-twice (inputsOf S I x)
-    where
-      map-twice : (l : List ℕ) → map codeOf (map (inputAt S I N) l) ≡ map (λ y. codeOf (inputAt S I N y)) l
-      map-twice [] = refl
-      map-twice (y ∷ l) = ap (λ m. codeOf (inputAt S I N y) ∷ m) (map-twice l)
+  codes-are = ap (map codeOf) inputs-are ∙ map-map codeOf (inputAt S I N) (inputsOf S I x)
 
   kind-is : (2 ≤ getD K x 0) × (getD K x 0 ≤ 4) → kindOf (gateAt S I N K L x) ≡ getD K x 0
   unfolding gateAt
@@ -62,9 +59,10 @@ module _ (S I N K L : List ℕ) (x : ℕ) where
   unfolding gateAt
   least-four e = rw e
 
-  told-is : (g used : ℕ) {n m : ℕ} → n ≡ length (inputsOf S I x) → GateTold g used (getD K x 0) (getD L x 0) n m → m ≡ gateBreaks limits g used (gateAt S I N K L x)
+  told-is : (g used : ℕ) {n d m : ℕ} → n ≡ length (inputsOf S I x) → DistinctTold S I N x d → GateTold g used (getD K x 0) (getD L x 0) n d m
+      → m ≡ gateBreaks limits g used (gateAt S I N K L x)
   unfolding gateAt
-  told-is g used e told = told (map (inputAt S I N) (inputsOf S I x)) (map-length (inputAt S I N) (inputsOf S I x) ∙ sym e)
+  told-is g used e few told = told (map (inputAt S I N) (inputsOf S I x)) (map-length (inputAt S I N) (inputsOf S I x) ∙ sym e) (λ h. few (omega arith))
 
 -- ---- one turn
 
@@ -109,10 +107,47 @@ module _ {S I : List ℕ} {n : ℕ} {Q : List ℕ} {left : ℕ} {N K L : List �
         longer : X (i + 1) ≡ X i ++ (gateAt S I N K L x ∷ [])
         longer = gates-more ∙ ap (λ m. X i ++ m) (gates-gate S I N K L x is-gate)
 
-        module _ {m : ℕ} (judged : GateTold g used (getD K x 0) (getD L x 0) size m) where
+        module _ (kinds : length (eventsOf inputs (take left Q)) ≤ limits .events) where
+          -- an input stands before the name in the order, so that its number is a lower one of its kind
+          early : (y : ℕ) → In y (inputs x) → In y (take i Q)
+          early y h =
+              let l : List ℕ = take left Q in
+              let here : getD l i 0 ≡ x = getD-take left Q i 0 more ∙ sym ex in
+              let inside : i < length l = omega (arith, length-take-le left Q (a .numbered .inside)) in
+              let before : In y (take i l) = a .numbered .ordered .after i y inside (subst (λ z. In y (inputs z)) (sym here) h) in
+              subst (λ m. In y m) (take-take i left Q (omega arith)) before
+
+          split : take left Q ≡ take i Q ++ drop i (take left Q)
+          split = let k : i ≤ left = omega arith in the-rest Q k
+
+          event-small : (y : ℕ) → In y (inputs x) → isEvent (inputs y) ≡ true → getD N y 0 < limits .events
+          event-small y h e =
+              let parts : eventsOf inputs (take left Q) ≡ eventsOf inputs (take i Q) ++ eventsOf inputs (drop i (take left Q))
+              = ap (eventsOf inputs) split ∙ events-append inputs (take i Q) (drop i (take left Q)) in
+              let low = turn-low N (eventsOf inputs (take i Q)) (eventsOf inputs (drop i (take left Q))) (rw parts at (a .event-turn)) y (in-events inputs y (take i Q) (early y h) e) in
+              omega (arith, low, kinds, ap length parts, length-append (eventsOf inputs (take i Q)) (eventsOf inputs (drop i (take left Q))))
+
+          gate-small : (y : ℕ) → In y (inputs x) → isEvent (inputs y) ≡ false → getD N y 0 < limits .gates
+          gate-small y h e =
+              let parts : gatesOf inputs (take left Q) ≡ gatesOf inputs (take i Q) ++ gatesOf inputs (drop i (take left Q))
+              = ap (gatesOf inputs) split ∙ gates-append inputs (take i Q) (drop i (take left Q)) in
+              let low = turn-low N (gatesOf inputs (take i Q)) (gatesOf inputs (drop i (take left Q))) (rw parts at (a .gate-turn)) y (in-gates inputs y (take i Q) (early y h) e) in
+              let as-many : length (X i) ≡ length (gatesOf inputs (take i Q)) = among-long S I N K L (take i Q) in
+              omega (arith, low, as-many, w .count, gates-few limits (X i) 0 0 (w .within) (omega arith))
+
+          pub grown-sortable : Sortable S I n N x
+          grown-sortable = record {
+            arrays = a .numbered .arrays;
+            low = grown-low;
+            long = a .numbered .long;
+            small = λ y h. either (isEvent (inputs y)) (λ e. omega (arith, event-small y h e)) (λ e. gate-small y h e);
+            events = event-small;
+          }
+
+        module _ {d m : ℕ} (few : DistinctTold S I N x d) (judged : GateTold g used (getD K x 0) (getD L x 0) size d m) where
           one-gate : gatesBreak limits g used (gateAt S I N K L x ∷ []) ≡ m
           unfolding gatesBreak
-          one-gate = orElse-last (gateBreaks limits g used (gateAt S I N K L x)) ∙ sym (told-is S I N K L x g used long judged)
+          one-gate = orElse-last (gateBreaks limits g used (gateAt S I N K L x)) ∙ sym (told-is S I N K L x g used long few judged)
 
           breaks-next : gatesBreak limits 0 0 (X (i + 1)) ≡ m
           breaks-next =
@@ -143,7 +178,7 @@ module _ {S I : List ℕ} {n : ℕ} {Q : List ℕ} {left : ℕ} {N K L : List �
             within-next = omega (arith, breaks-next)
 
             right : GateRight limits g used (gateAt S I N K L x)
-            right = gate-right limits g used (gateAt S I N K L x) (omega (arith, told-is S I N K L x g used long judged))
+            right = gate-right limits g used (gateAt S I N K L x) (omega (arith, told-is S I N K L x g used long few judged))
 
             size-here : sizeOf (gateAt S I N K L x) ≡ size
             size-here = size-is S I N K L x ∙ sym long
@@ -160,38 +195,16 @@ module _ {S I : List ℕ} {n : ℕ} {Q : List ℕ} {left : ℕ} {N K L : List �
             pub grown-least : getD K x 0 ≡ 4 → getD L x 0 ≤ limits .inputs
             grown-least e =
                 let r = least-right (gateAt S I N K L x) (right .least) (kind-is S I N K L x grown-kind ∙ e) in
-                omega (arith, r .1, least-four S I N K L x e, right .small)
+                omega (arith, r .1, least-four S I N K L x e, right .small, firsts-length sameInput (inputsTo (gateAt S I N K L x)))
 
-            module _ (few : length (eventsOf inputs (take left Q)) ≤ limits .events) where
-              number-small : (y : ℕ) → In y (inputs x) → getD N y 0 < limits .gates
-              number-small y h =
-                  let l : List ℕ = take left Q in
-                  let here : getD l i 0 ≡ x = getD-take left Q i 0 more ∙ sym ex in
-                  let inside : i < length l = omega (arith, length-take-le left Q (a .numbered .inside)) in
-                  let before : In y (take i l) = a .numbered .ordered .after i y inside (subst (λ z. In y (inputs z)) (sym here) h) in
-                  let early : In y (take i Q) = subst (λ m. In y m) (take-take i left Q (omega arith)) before in
-                  let split : take left Q ≡ take i Q ++ drop i (take left Q) = let k : i ≤ left = omega arith in the-rest Q k in
-                  either (isEvent (inputs y))
-                  (λ e.
-                  let parts : eventsOf inputs (take left Q) ≡ eventsOf inputs (take i Q) ++ eventsOf inputs (drop i (take left Q))
-                  = ap (eventsOf inputs) split ∙ events-append inputs (take i Q) (drop i (take left Q)) in
-                  let low = turn-low N (eventsOf inputs (take i Q)) (eventsOf inputs (drop i (take left Q))) (rw parts at (a .event-turn)) y (in-events inputs y (take i Q) early e) in
-                  omega (arith, low, few, ap length parts, length-append (eventsOf inputs (take i Q)) (eventsOf inputs (drop i (take left Q)))))
-                  (λ e.
-                  let parts : gatesOf inputs (take left Q) ≡ gatesOf inputs (take i Q) ++ gatesOf inputs (drop i (take left Q))
-                  = ap (gatesOf inputs) split ∙ gates-append inputs (take i Q) (drop i (take left Q)) in
-                  let low = turn-low N (gatesOf inputs (take i Q)) (gatesOf inputs (drop i (take left Q))) (rw parts at (a .gate-turn)) y (in-gates inputs y (take i Q) early e) in
-                  let as-many : length (X i) ≡ length (gatesOf inputs (take i Q)) = among-long S I N K L (take i Q) in
-                  omega (arith, low, as-many, w .count, grown-few))
-
-              pub grown-putable : Putable S I n N x used
-              grown-putable = record {
-                arrays = a .numbered .arrays;
-                low = grown-low;
-                long = a .numbered .long;
-                small = number-small;
-                room = omega (arith, grown-fits, long);
-              }
+            pub grown-putable : length (eventsOf inputs (take left Q)) ≤ limits .events → Putable S I n N x used
+            grown-putable kinds = record {
+              arrays = a .numbered .arrays;
+              low = grown-low;
+              long = a .numbered .long;
+              small = grown-sortable kinds .small;
+              room = omega (arith, grown-fits, long);
+            }
 
             pub grown-gate : {k : ℕ} → LeastKept (getD K x 0) (getD L x 0) k → {out : List ℕ} → Puts S I N (inputs x) used is out
                 → GatesIn (X (i + 1)) (g + 1) (used + size) (set ks g (getD K x 0)) (set ls g k) (set ns g size) out

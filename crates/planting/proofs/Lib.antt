@@ -3,4 +3,5 @@ pub mod Orders
 pub mod Sowing
 pub mod Gates
 pub mod Putting
+pub mod Sorting
 pub mod Growing

@@ -1,13 +1,15 @@
 -- What planting answers: the number of the first limit that is broken, 0 where none is.
 -- Assumes nothing.
 use mathlib.Core.Path.{_≡_}
+use mathlib.Core.Bool.{true}
 use mathlib.Core.List.{List, map, _++_}
 use Prim.Native.Nat.{ℕ, _+_, _<_, _≤_}
 use lib.ListN.{length, getD}
 use Rattle.paper.specs.Limits.{limits}
 use Rattle.paper.specs.Lists.{In, flat, sum}
-use Rattle.paper.specs.Trees.{Input, Gate, Tree}
+use Rattle.paper.specs.Trees.{Input, Gate, distinctInputs, Tree}
 use Rattle.paper.specs.Flat.{gateOf}
+use Rattle.paper.specs.Walks.{isEvent}
 use Rattle.paper.specs.Importing.{eventsBreak, leastBreaks, gateBreaks, gatesBreak, broken}
 use Rattle.records.specs.Judge.{start}
 use Rattle.records.specs.Memory.{pad, noEvent, memory}
@@ -56,13 +58,14 @@ pub record Refuses (m : ℕ) (r : Planted) : Type 0 where
 
 -- ---- one gate
 
--- 5 or 0, for a gate of this kind and k over n inputs
-abbrev pub LeastTold : (kind k n : ℕ) → ℕ → Type 0
-LeastTold kind k n r = (is : List Input) → length is ≡ n → r ≡ leastBreaks (gateOf kind k is)
+-- 5 or 0, for a gate of this kind and k over d distinct inputs
+abbrev pub LeastTold : (kind k d : ℕ) → ℕ → Type 0
+LeastTold kind k d r = (is : List Input) → d ≡ length (distinctInputs is) → r ≡ leastBreaks (gateOf kind k is)
 
--- the number of the limit that it breaks as gate g, with so many inputs in all before it
-abbrev pub GateTold : (g used kind k n : ℕ) → ℕ → Type 0
-GateTold g used kind k n r = (is : List Input) → length is ≡ n → r ≡ gateBreaks limits g used (gateOf kind k is)
+-- the number of the limit that it breaks as gate g, with so many inputs in all before it, over n inputs, d of them distinct
+abbrev pub GateTold : (g used kind k n d : ℕ) → ℕ → Type 0
+GateTold g used kind k n d r =
+    (is : List Input) → length is ≡ n → (n ≤ limits .inputs → d ≡ length (distinctInputs is)) → r ≡ gateBreaks limits g used (gateOf kind k is)
 
 -- the k that memory holds for it
 abbrev pub LeastKept : (kind k : ℕ) → ℕ → Type 0
@@ -77,6 +80,18 @@ pub record Putable (S I : List ℕ) (n : ℕ) (N : List ℕ) (x used : ℕ) : Ty
   pub long : n ≤ length N
   pub small : (y : ℕ) → In y (inputsOf S I x) → getD N y 0 < limits .gates
   pub room : used + length (inputsOf S I x) ≤ limits .inAll
+
+-- the inputs of name x are numbered, the events among them below the gates
+pub record Sortable (S I : List ℕ) (n : ℕ) (N : List ℕ) (x : ℕ) : Type 0 where
+  pub arrays : Arrays S I n
+  pub low : x < n
+  pub long : n ≤ length N
+  pub small : (y : ℕ) → In y (inputsOf S I x) → getD N y 0 < limits .gates
+  pub events : (y : ℕ) → In y (inputsOf S I x) → isEvent (inputsOf S I y) ≡ true → getD N y 0 < limits .events
+
+-- how many of them are distinct, where a gate may have so many
+abbrev pub DistinctTold : (S I N : List ℕ) (x : ℕ) → ℕ → Type 0
+DistinctTold S I N x r = length (inputsOf S I x) ≤ limits .inputs → r ≡ length (distinctInputs (map (inputAt S I N) (inputsOf S I x)))
 
 -- where `used` inputs stood in the array, and zeros behind them, those of the names ys stand behind them now
 abbrev pub Puts : (S I N : List ℕ) → List ℕ → (used : ℕ) → List ℕ → List ℕ → Type 0

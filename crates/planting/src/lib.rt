@@ -8,6 +8,7 @@ use paper::INPUTS;
 use records::Event;
 use records::Tree;
 use records::empty;
+use twins::distinct;
 ghost use mathlib.Core.Path.{_≡_};
 ghost use mathlib.Core.List.{[], _∷_};
 ghost use Prim.Native.Nat.{_<_, _≤_};
@@ -18,7 +19,7 @@ ghost use Rattle.paper.specs.Importing.{eventsBreak, tooMany};
 ghost use Rattle.records.specs.Flattened.{codeOf};
 ghost use Rattle.depthfirst.specs.Inputs.{inputsOf, Arrays};
 ghost use Rattle.planting.specs.Orders.{inputAt, chancesAmong, gatesAmong, treeAmong, Sowable, Plantable};
-ghost use Rattle.planting.specs.Planting.{Sows, Plants, PlantsOver, Refuses, LeastTold, GateTold, LeastKept, Putable, Puts};
+ghost use Rattle.planting.specs.Planting.{Sows, Plants, PlantsOver, Refuses, LeastTold, GateTold, LeastKept, Putable, Puts, Sortable, DistinctTold};
 
 // The number of the first limit that an event breaks; where it is 0, how many events there are, and the events, with zeros behind them.
 pub struct Sown {
@@ -147,9 +148,9 @@ fn too_many(g: usize, used: usize, n: usize) -> bool
     IN_ALL < used + n
 }
 
-// 5 where k of an at-least gate is 0 or above the number of its inputs, else 0.
-fn least_breaks(kind: u32, k: u32, n: usize) -> u8
-    ensures { λ r. ⌜ LeastTold kind k n r ⌝ }
+// 5 where k of an at-least gate is 0 or above the number `d` of its distinct inputs, else 0.
+fn least_breaks(kind: u32, k: u32, d: usize) -> u8
+    ensures { λ r. ⌜ LeastTold kind k d r ⌝ }
 {
     if kind == 2 {
         return 0;
@@ -161,21 +162,21 @@ fn least_breaks(kind: u32, k: u32, n: usize) -> u8
     if least == 0 {
         return 5;
     }
-    if n < least {
+    if d < least {
         return 5;
     }
     0
 }
 
-// The number of the limit that gate number `g` breaks, or 0.
-fn gate_breaks(g: usize, used: usize, kind: u32, k: u32, n: usize) -> u8
+// The number of the limit that gate number `g` breaks, or 0: of `n` inputs, `d` of them distinct.
+fn gate_breaks(g: usize, used: usize, kind: u32, k: u32, n: usize, d: usize) -> u8
     requires { ⌜ used ≤ limits .inAll ⌝ }
-    ensures { λ r. ⌜ GateTold g used kind k n r ⌝ }
+    ensures { λ r. ⌜ GateTold g used kind k n d r ⌝ }
 {
     if too_many(g, used, n) {
         4
     } else {
-        least_breaks(kind, k, n)
+        least_breaks(kind, k, d)
     }
 }
 
@@ -230,6 +231,21 @@ fn put_inputs(
     }
 }
 
+// How many distinct inputs the name `x` has. More than one gate may have are not looked at: they are too many anyway.
+fn distinct_inputs(starts: &[u32], inputs: &[u32], count: u32, numbers: &[u32], x: usize) -> usize
+    requires { ⌜ Sortable (now starts) (now inputs) count (now numbers) x ⌝ }
+    ensures { λ r. ⌜ DistinctTold (now (starts .entry)) (now (inputs .entry)) (now (numbers .entry)) x r ⌝ }
+{
+    let n = size(starts, inputs, count, x);
+    if INPUTS < n {
+        return n;
+    }
+    let mut codes = [0u16; IN_ALL];
+    put_inputs(starts, inputs, count, numbers, x, &mut codes, 0);
+    let mut own = [0u16; INPUTS];
+    distinct(&codes[..n], &mut own)
+}
+
 // The gates of the order, in its order, over the events that are planted.
 fn plant_gates(
     starts: &[u32],
@@ -260,7 +276,8 @@ fn plant_gates(
         if 0 < n {
             let kind = kinds[x];
             let k = leasts[x];
-            let number = gate_breaks(g, used, kind, k, n);
+            let d = distinct_inputs(starts, inputs, count, numbers, x);
+            let number = gate_breaks(g, used, kind, k, n, d);
             if 0 < number {
                 return refused(number);
             }

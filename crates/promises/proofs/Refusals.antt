@@ -9,8 +9,8 @@ use lib.ListN.{length, drop}
 use Rattle.paper.specs.Limits.{limits, billion}
 use Rattle.rules.specs.Answers.{verdict}
 use Rattle.rules.specs.Format.{recordOf}
-use Rattle.rules.specs.Rules.{wrongK, admitOf, stepOf}
-use Rattle.records.specs.Judge.{Book, start, counts, addEvent, addGate, addInput, Outcome, accept, refuse, unusedBy, closeOf, run, outcome}
+use Rattle.rules.specs.Rules.{admitOf, stepOf}
+use Rattle.records.specs.Judge.{Book, start, counts, addEvent, addGate, addInput, Outcome, accept, refuse, unusedBy, closeOf, nextStep, run, outcome}
 use Rattle.rules.specs.declared.Answer.{Answer}
 use Rattle.rules.specs.declared.Answer.the-variants.{Unused}
 use Rattle.rules.specs.declared.format.Record.{Record}
@@ -22,6 +22,7 @@ use Rattle.records.specs.declared.uses.Found.{Found}
 use Rattle.records.specs.declared.uses.Found.the-variants.{At, Nothing}
 use Rattle.rules.proofs.Cases.{if-elim}
 use Rattle.promises.specs.Reasons.{OneToEight}
+use Rattle.records.proofs.Starving.{threshold-elim}
 use Rattle.records.proofs.Runs.{run-event, run-gate, run-input, run-close, run-refused}
 
 -- what a step, or a reading, says if it refuses
@@ -49,8 +50,7 @@ step-range len s (Gate kind k n) =
     (λ _. if-elim InRange (leb (limits .gates) (s .gates)) (λ _. (omega arith, omega arith))
     (λ _. if-elim InRange (eqb n 0) (λ _. (omega arith, omega arith))
     (λ _. if-elim InRange (ltb (limits .inputs) n) (λ _. (omega arith, omega arith))
-    (λ _. if-elim InRange (ltb (limits .inAll) (s .inputs + n)) (λ _. (omega arith, omega arith))
-    (λ _. if-elim InRange (wrongK kind k n) (λ _. (omega arith, omega arith)) (λ _. tt))))))
+    (λ _. if-elim InRange (ltb (limits .inAll) (s .inputs + n)) (λ _. (omega arith, omega arith)) (λ _. tt)))))
 step-range len s (EventInput e) =
     if-elim InRange (eqb (s .left) 0) (λ _. (omega arith, omega arith))
     (λ _. if-elim InRange (leb (s .events) e) (λ _. (omega arith, omega arith)) (λ _. tt))
@@ -63,9 +63,10 @@ step-range len s End =
     (λ _. if-elim InRange (eqb (s .events) 0) (λ _. (omega arith, omega arith))
     (λ _. if-elim InRange (eqb (s .gates) 0) (λ _. (omega arith, omega arith)) (λ _. tt))))
 
-stepped : (bytes : List ℕ) (s : State) → InRange (stepOf limits bytes s)
-unfolding stepOf
-stepped bytes s = step-range (length bytes) s (recordOf (drop (s .at) bytes))
+-- by the record alone, or by 5 after a gate's last input
+stepped : (bytes : List ℕ) (b : Book) → InRange (nextStep limits bytes b)
+unfolding nextStep stepOf
+stepped bytes b = threshold-elim b InRange (λ p. (omega arith, omega arith)) (stepOf limits bytes (counts b)) (step-range (length bytes) (counts b) (recordOf (drop (b .at) bytes)))
 
 closed : (b : Book) → Ranged (closeOf b)
 unfolding closeOf
@@ -78,9 +79,9 @@ closed b = go (unusedBy b)
 running : (bytes : List ℕ) (turns : ℕ) (b : Book) → Ranged (run limits turns bytes b)
 unfolding run
 running bytes zero b = (omega arith, omega arith)
-running bytes (suc turns) b = go (stepOf limits bytes (counts b)) refl (stepped bytes (counts b)) (running bytes turns)
+running bytes (suc turns) b = go (nextStep limits bytes b) refl (stepped bytes b) (running bytes turns)
   where
-    go : (x : Step) → stepOf limits bytes (counts b) ≡ x → InRange x → ((b : Book) → Ranged (run limits turns bytes b)) → Ranged (run limits (suc turns) bytes b)
+    go : (x : Step) → nextStep limits bytes b ≡ x → InRange x → ((b : Book) → Ranged (run limits turns bytes b)) → Ranged (run limits (suc turns) bytes b)
     go (AddEvent c next) q h on = subst Ranged (sym (run-event turns bytes b c next q)) (on (addEvent b c next))
     go (AddGate kind k n next) q h on = subst Ranged (sym (run-gate turns bytes b kind k n next q)) (on (addGate b kind k n next))
     go (AddInput i next) q h on = subst Ranged (sym (run-input turns bytes b i next q)) (on (addInput b i next))

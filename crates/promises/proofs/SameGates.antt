@@ -1,4 +1,4 @@
--- GATES OF ONE MEANING HAVE ONE NODE: at least 1 of n inputs has the or's, at least n of them the and's, for every n.
+-- GATES OF ONE MEANING HAVE ONE NODE: at least 1 of any inputs has the or's, at least as many as are distinct the and's.
 -- Assumes nothing.
 use mathlib.Core.Path.{_≡_, refl, sym, ap, ap₂, _∙_, subst}
 use mathlib.Core.Bool.{false}
@@ -9,7 +9,9 @@ use lib.ListN.{length, getD, length-append, List·getD-append}
 use lib.Seq.{getD-append-seam}
 use lib.Dec.{leb}
 use Rattle.paper.specs.Functions.{Fun}
-use Rattle.paper.specs.Trees.{Input, event, gate, Gate, andG, orG, leastG, constF, everyFails, someFails, countFails, inputFun, gateFun, gateFunsFrom, gateFuns}
+use Rattle.paper.specs.Trees.{Input, event, gate, Gate, andG, orG, leastG, sameInput, distinctInputs, constF, everyFails, someFails, countFails, inputFun, gateFun, gateFunsFrom, gateFuns}
+use Rattle.twins.proofs.Firsts.{firsts-in}
+use Rattle.algebra.proofs.Lists.{map-agree, map-same}
 use Rattle.algebra.proofs.Least.{least-one, least-all}
 use Rattle.records.specs.Trees.{treeOf, InputsLower, GateLower, TreeLower}
 use Rattle.trees.proofs.Lawful.{lawful, tree-below}
@@ -34,10 +36,14 @@ same-inputs n gs hs e [] l = refl
 same-inputs n gs hs e (event i ∷ is) l = ap (inputFun hs (event i) ∷_) (same-inputs n gs hs e is (l .1))
 same-inputs n gs hs e (gate i ∷ is) l = ap₂ _∷_ (e i (l .0)) (same-inputs n gs hs e is (l .1))
 
+same-distinct : (n : ℕ) (gs hs : List Fun) → Agree n gs hs → (is : List Input) → InputsLower n is → map (inputFun gs) (distinctInputs is) ≡ map (inputFun hs) (distinctInputs is)
+same-distinct n gs hs e is l =
+    map-same (inputFun gs) (inputFun hs) (distinctInputs is) (λ i h. map-agree (inputFun gs) (inputFun hs) i is (same-inputs n gs hs e is l) (firsts-in sameInput i is h))
+
 same-function : (n : ℕ) (gs hs : List Fun) → Agree n gs hs → (g : Gate) → GateLower n g → gateFun gs g ≡ gateFun hs g
 same-function n gs hs e (andG is) l = ap (λ Fs v. everyFails Fs v) (same-inputs n gs hs e is l)
 same-function n gs hs e (orG is) l = ap (λ Fs v. someFails Fs v) (same-inputs n gs hs e is l)
-same-function n gs hs e (leastG k is) l = ap (λ Fs v. leb k (countFails Fs v)) (same-inputs n gs hs e is l)
+same-function n gs hs e (leastG k is) l = ap (λ Fs v. leb k (countFails Fs v)) (same-distinct n gs hs e is l)
 
 -- later gates leave the functions of the earlier ones
 stays : (gs : List Fun) (t : List Gate) → Agree (length gs) (gateFunsFrom gs t) gs
@@ -89,9 +95,9 @@ module _ {bytes : List ℕ} {m m′ : Memory} {a : Analysis} (x : Analysed bytes
             ∙ sym (gate-function gates low j (hj .inside) h ∙ ap (gateFun (gateFuns gates)) (hj .is)))),
       )
 
-  -- AT LEAST 1 AND OR, AT LEAST n AND AND: over the same inputs they have one node
+  -- AT LEAST 1 AND OR, AT LEAST AS MANY AS ARE DISTINCT AND AND: over the same inputs they have one node
   pub least-one-is-or : (t : Accepted bytes) × ((is : List Input) → OneNode t m′ (leastG 1 is) (orG is))
   least-one-is-or = let (t, same) = one-node in (t, λ is. same (leastG 1 is) (orG is) (λ gs. least-one gs is))
 
-  pub least-all-is-and : (t : Accepted bytes) × ((is : List Input) → OneNode t m′ (leastG (length is) is) (andG is))
-  least-all-is-and = let (t, same) = one-node in (t, λ is. same (leastG (length is) is) (andG is) (λ gs. least-all gs is))
+  pub least-all-is-and : (t : Accepted bytes) × ((is : List Input) → OneNode t m′ (leastG (length (distinctInputs is)) is) (andG is))
+  least-all-is-and = let (t, same) = one-node in (t, λ is. same (leastG (length (distinctInputs is)) is) (andG is) (λ gs. least-all gs is))

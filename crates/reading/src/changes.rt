@@ -120,6 +120,20 @@ fn gates(t: Tree) {
     tell(b"gate 0 of 3 inputs", v);
 }
 
+fn twins(t: Tree) {
+    let mut u = t;
+    u.kinds[1] = 4;
+    u.leasts[1] = 2;
+    tell(b"gate 1 at least 2 of events 1, 2", u);
+    u.inputs[3] = 1;
+    tell(b"gate 1 at least 2 of events 1, 1", u);
+    u.inputs[3] = 256;
+    tell(b"gate 1 at least 2 of event 1, gate 0", u);
+    u.inputs[3] = 9;
+    u.leasts[1] = 3;
+    tell(b"gate 1 at least 3 of events 1, 9", u);
+}
+
 fn inputs(t: Tree) {
     let mut u = t;
     u.inputs[0] = 3;
@@ -146,6 +160,7 @@ pub fn all() {
     tell(b"as it was read", t);
     counts(t);
     gates(t);
+    twins(t);
     inputs(t);
     in_room(t, 35);
     in_room(t, 36);

@@ -39,7 +39,7 @@ pub orElse-assoc : (a b c : ℕ) → orElse a (orElse b c) ≡ orElse (orElse a 
 orElse-assoc zero b c = refl
 orElse-assoc (suc a) b c = refl
 
-either-false : (a b : Bool) → (a || b) ≡ false → (a ≡ false) × (b ≡ false)
+pub either-false : (a b : Bool) → (a || b) ≡ false → (a ≡ false) × (b ≡ false)
 either-false true b e = let z : _≡_ {A = ℕ} 0 1 = cc in absurd (omega arith)
 either-false false b e = (refl, e)
 

@@ -8,16 +8,18 @@ use Prim.Native.Nat.{ℕ, zero, suc, _+_, _-_, _≤_, _<_}
 use native.Mathlib.Omega.{arith}
 use lib.Dec.{ltb, eqb}
 use lib.ListN.{length, getD, take, drop, length-append, List·getD-append}
-use lib.Seq.{take-at, drop-at, getD-at, getD-append-add}
+use lib.Seq.{take-at, drop-at, getD-at, drop-append-add, getD-append-add}
 use borrow.Author.Tests.{ltb-false, lt-ltb, le-ltb, eq-eqb}
 use Rattle.paper.specs.Limits.{limits}
 use Rattle.paper.specs.Lists.{In, flat, sum}
-use Rattle.paper.specs.Trees.{Input, event, gate, Gate, andG, orG, leastG, Tree, events, InputBelow, InputsBelow, GateBelow, TreeBelow}
+use Rattle.paper.specs.Trees.{Input, event, gate, Gate, andG, orG, leastG, distinctInputs, Tree, events, InputBelow, InputsBelow, GateBelow, TreeBelow}
 use Rattle.paper.specs.Flat.{gatesFrom, inputOf, gateOf, gatesOf}
 use Rattle.paper.specs.Importing.{inputsTo, leastBreaks, eventsBreak, gatesBreak}
+use Rattle.twins.specs.Distinct.{distinctCodes}
 use Rattle.rules.specs.Rules.{Fits}
 use Rattle.rules.proofs.Cases.{either}
 use Rattle.records.specs.Uses.{among}
+use Rattle.records.specs.Thresholds.{inputsAt, distinctAt}
 use Rattle.records.specs.Judge.{_▷_}
 use Rattle.records.specs.Memory.{noEvent}
 use Rattle.records.specs.Trees.{treeOf, Lawful, InputLower, InputsLower, GateLower, TreeLower}
@@ -25,6 +27,7 @@ use Rattle.records.specs.Flattened.{kindOf, leastOf, sizeOf, codeOf, cod
 use Rattle.records.specs.declared.Event.{Event}
 use Rattle.records.proofs.Lists.{map-length, map-append, map-at, map-in, at-in, in-first, in-second}
 use Rattle.records.proofs.Pad.{length-▷}
+use Rattle.records.proofs.Codes.{distinct-codes}
 use Rattle.records.proofs.Breaks.{events-few, events-low, gates-few, gates-room, gates-right, broken-events, broken-gates}
 
 -- ---- the codes of gates, one gate after the other
@@ -49,6 +52,16 @@ codes-at (x ∷ xs) (suc g) i d h l =
     ap (λ k. getD (codesOf x ++ flat codesOf xs) k 0) q
     ∙ getD-append-add (codesOf x) (flat codesOf xs) (s + i) 0
     ∙ codes-at xs g i d (omega arith) l
+
+pub codes-of : (xs : List Gate) (g : ℕ) (d : Gate) → g < length xs → inputsAt (map sizeOf xs) (flat codesOf xs) g ≡ codesOf (getD xs g d)
+codes-of [] g d h = absurd (omega arith)
+codes-of (x ∷ xs) zero d h = take-at (codesOf x) (flat codesOf xs) (sizeOf x) (codes-long x)
+codes-of (x ∷ xs) (suc g) d h =
+    let s : ℕ = sum (take g (map sizeOf xs)) in
+    let q : sizeOf x + s ≡ length (codesOf x) + s = omega (arith, codes-long x) in
+    ap (λ k. take (getD (map sizeOf xs) g 0) (drop k (codesOf x ++ flat codesOf xs))) q
+    ∙ ap (take (getD (map sizeOf xs) g 0)) (drop-append-add (codesOf x) (flat codesOf xs) s)
+    ∙ codes-of xs g d (omega arith)
 
 in-among : (x : ℕ) (l : List ℕ) → In x l → among x l ≡ true
 unfolding among
@@ -152,11 +165,14 @@ least-none true b e = absurd (omega arith)
 least-none false true e = absurd (omega arith)
 least-none false false e = (refl, refl)
 
-pub least-right : (x : Gate) → leastBreaks x ≡ 0 → kindOf x ≡ 4 → (1 ≤ leastOf x) × (leastOf x ≤ sizeOf x)
+pub least-right : (x : Gate) → leastBreaks x ≡ 0 → kindOf x ≡ 4 → (1 ≤ leastOf x) × (leastOf x ≤ length (distinctInputs (inputsTo x)))
 least-right (andG is) e q = absurd (omega arith)
 least-right (orG is) e q = absurd (omega arith)
 least-right (leastG zero is) e q = absurd (omega arith)
-least-right (leastG (suc k) is) e q = let t = least-none (eqb (suc k) 0) (ltb (length is) (suc k)) e in (omega arith, ltb-false (length is) (suc k) (t .1))
+least-right (leastG (suc k) is) e q =
+    let n : ℕ = length (distinctInputs is) in
+    let t = least-none (eqb (suc k) 0) (ltb n (suc k)) e in
+    (omega arith, ltb-false n (suc k) (t .1))
 
 module _ (t : Tree) (h : LawfulTree limits t) where
   abbrev none : Gate
@@ -177,6 +193,14 @@ module _ (t : Tree) (h : LawfulTree limits t) where
   few : events t ≤ gatesFrom
   few = omega (arith, events-few limits (t .chances) 0 chances-fine (omega arith))
 
+  -- as many distinct numbers as distinct inputs
+  distinct-at : (g : ℕ) → g < length xs → distinctAt (map sizeOf xs) (flat codesOf xs) g ≡ length (distinctInputs (inputsTo (getD xs g none)))
+  distinct-at g l =
+      let is : List Input = inputsTo (getD xs g none) in
+      ap (λ cs. length (distinctCodes cs)) (codes-of xs g none l)
+      ∙ ap length (distinct-codes (events t) few is (below-at (events t) xs g none (h .below) l))
+      ∙ map-length codeOf (distinctInputs is)
+
   pub tree-lawful : Lawful limits (bookOf t)
   unfolding bookOf
   tree-lawful =
@@ -195,7 +219,7 @@ module _ (t : Tree) (h : LawfulTree limits t) where
         chances = λ e l. rw (map-at eventOf (t .chances) e noEvent 0 (omega arith)) (events-low limits (t .chances) 0 chances-fine e (omega arith));
         kinds = λ g l. rw (map-at kindOf xs g 0 none (in-xs g l)) (kind-known (getD xs g none));
         sizes = λ g l. rw (map-at sizeOf xs g 0 none (in-xs g l)) (right g (in-xs g l) .0, right g (in-xs g l) .1);
-        leasts = λ g l. rw (map-at kindOf xs g 0 none (in-xs g l), map-at leastOf xs g 0 none (in-xs g l), map-at sizeOf xs g 0 none (in-xs g l))
+        leasts = λ g l. rw (map-at kindOf xs g 0 none (in-xs g l), map-at leastOf xs g 0 none (in-xs g l), distinct-at g (in-xs g l))
             (least-right (getD xs g none) (right g (in-xs g l) .2));
         plain = λ g l. rw (map-at kindOf xs g 0 none (in-xs g l), map-at leastOf xs g 0 none (in-xs g l)) (kind-plain (getD xs g none));
         inputs = λ g l i k.

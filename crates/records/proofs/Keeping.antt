@@ -1,8 +1,8 @@
 -- What holds of every book that a run comes to.
 -- Assumes nothing.
-use mathlib.Core.Path.{_≡_, refl, ap, _∙_}
+use mathlib.Core.Path.{_≡_, refl, sym, ap, _∙_}
 use mathlib.Core.Bool.{false}
-use mathlib.Core.List.{List}
+use mathlib.Core.List.{List, [], _∷_}
 use Prim.Native.Nat.{ℕ, _+_, _-_, _*_, _≤_, _<_}
 use native.Mathlib.Omega.{arith}
 use lib.ListN.{length, getD, take}
@@ -15,8 +15,9 @@ use Rattle.paper.specs.Lists.{sum}
 use Rattle.rules.specs.Choice.{if_then_else_}
 use Rattle.rules.specs.Format.{byte, recordOf, widthOf}
 use Rattle.paper.specs.Flat.{gatesFrom}
-use Rattle.rules.specs.Rules.{wrongK, Fits}
-use Rattle.records.specs.Judge.{Book, start, counts, _▷_, addEvent, addGate, addInput}
+use Rattle.rules.specs.Rules.{Fits}
+use Rattle.records.specs.Thresholds.{wrongAt}
+use Rattle.records.specs.Judge.{Book, start, counts, _▷_, addEvent, addGate, addInput, starved}
 use Rattle.records.specs.Memory.{noEvent}
 use Rattle.rules.specs.States.{Bounded}
 use Rattle.rules.specs.declared.format.Record.{Record}
@@ -24,7 +25,8 @@ use Rattle.rules.specs.declared.format.Record.the-variants.{Missing, Unknown, S
 use Rattle.rules.proofs.Cases.{if-elim, either, front, known, gate-small}
 use Rattle.records.proofs.Pad.{length-▷}
 use Rattle.rules.proofs.Steps.{OnEvent, OnGate, OnInput, IsInput, codeOf}
-use Rattle.records.proofs.Sums.{old, new, all-▷, sum-▷, sum-old, belows, belows-▷, last-is}
+use Rattle.records.proofs.Sums.{old, new, all-▷, sum-▷, sum-old, sum-last, belows, belows-▷, last-is}
+use Rattle.records.proofs.Starving.{inputs-more, sizes-more, by-last}
 
 -- a gate record that was read is of a gate's kind
 gate-kind : (l : List ℕ) {kind k n : ℕ} → recordOf l ≡ Gate kind k n → (2 ≤ kind) × (kind ≤ 4)
@@ -84,7 +86,9 @@ pub record Kept (b : Book) : Type 0 where
   pub chances : (e : ℕ) → e < length (b .events) → getD (b .events) e noEvent .chance ≤ billion
   pub kinds : (g : ℕ) → g < length (b .kinds) → (2 ≤ getD (b .kinds) g 0) × (getD (b .kinds) g 0 ≤ 4)
   pub sizes : (g : ℕ) → g < length (b .sizes) → (1 ≤ getD (b .sizes) g 0) × (getD (b .sizes) g 0 ≤ limits .inputs)
-  pub right : (g : ℕ) → g < length (b .sizes) → wrongK (getD (b .kinds) g 0) (getD (b .leasts) g 0) (getD (b .sizes) g 0) ≡ false
+  -- a gate that has its inputs has a right k
+  pub right : (g : ℕ) → g < length (b .sizes) → sum (take g (b .sizes)) + getD (b .sizes) g 0 ≤ length (b .inputs)
+      → wrongAt (b .kinds) (b .leasts) (b .sizes) (b .inputs) g ≡ false
   pub plain : (g : ℕ) → g < length (b .sizes) → (getD (b .kinds) g 0 ≡ 4 → ⊥) → getD (b .leasts) g 0 ≡ 0
   pub fits : (g : ℕ) → g < length (b .sizes) → (i : ℕ) → i < getD (b .sizes) g 0 → sum (take g (b .sizes)) + i < length (b .inputs)
       → Fits (length (b .events)) g (getD (b .inputs) (sum (take g (b .sizes)) + i) 0)
@@ -159,9 +163,14 @@ module _ {b : Book} (v : Kept b) where
           chances = v .chances;
           kinds = all-▷ (b .kinds) kind 0 (λ _ x. (2 ≤ x) × (x ≤ 4)) (v .kinds) (gate-kind l (decoded ∙ on .shape));
           sizes = all-▷ (b .sizes) n 0 (λ _ x. (1 ≤ x) × (x ≤ limits .inputs)) (v .sizes) (on .some, on .small);
-          right = all-▷ (b .sizes) n 0 (λ g x. wrongK (getD (_▷_ (b .kinds) kind) g 0) (getD (_▷_ (b .leasts) k) g 0) x ≡ false)
-              (λ g h. rw (old (b .kinds) kind 0 g (omega (arith, v .sameKinds)), old (b .leasts) k 0 g (omega (arith, v .sameLeasts))) (v .right g h))
-              (rw (new (b .kinds) kind 0 G (v .sameKinds), new (b .leasts) k 0 G (v .sameLeasts)) (on .right));
+          right = λ g h.
+              below-more (λ (x : ℕ). sum (take x (_▷_ (b .sizes) n)) + getD (_▷_ (b .sizes) n) x 0 ≤ length (b .inputs)
+              → wrongAt (_▷_ (b .kinds) kind) (_▷_ (b .leasts) k) (_▷_ (b .sizes) n) (b .inputs) x ≡ false) G
+              (λ x l inside.
+              rw (old (b .kinds) kind 0 x (omega (arith, v .sameKinds)), old (b .leasts) k 0 x (omega (arith, v .sameLeasts)), sizes-more (b .sizes) (n ∷ []) (b .inputs) x l)
+              (v .right x l (rw (sum-old (b .sizes) n x (omega arith), old (b .sizes) n 0 x l) at inside)))
+              (λ inside. absurd (omega (arith, all, full, new (b .sizes) n 0 G refl, on .some)))
+              g (rw length-▷ at h);
           plain = all-▷ (b .sizes) n 0 (λ g x. (getD (_▷_ (b .kinds) kind) g 0 ≡ 4 → ⊥) → getD (_▷_ (b .leasts) k) g 0 ≡ 0)
               (λ g h. rw (old (b .kinds) kind 0 g (omega (arith, v .sameKinds)), old (b .leasts) k 0 g (omega (arith, v .sameLeasts))) (v .plain g h))
               (rw (new (b .kinds) kind 0 G (v .sameKinds), new (b .leasts) k 0 G (v .sameLeasts)) (gate-plain l (decoded ∙ on .shape)));
@@ -175,8 +184,8 @@ module _ {b : Book} (v : Kept b) where
               g (rw length-▷ at h) i j m;
         }
 
-    pub kept-input : {i next : ℕ} → OnInput len (counts b) r i next → Kept (addInput b i next)
-    kept-input {i} {next} on =
+    pub kept-input : {i next : ℕ} → OnInput len (counts b) r i next → starved (addInput b i next) ≡ false → Kept (addInput b i next)
+    kept-input {i} {next} on fed =
         let N : ℕ = length (b .inputs) in
         let wide : widthOf r + (if ltb i gatesFrom then 1 else 0) ≤ 3 = rw (on .code) at (input-width r (on .input)) in
         record {
@@ -192,7 +201,7 @@ module _ {b : Book} (v : Kept b) where
           chances = v .chances;
           kinds = v .kinds;
           sizes = v .sizes;
-          right = v .right;
+          right = λ g h m. fed-right g h (rw length-▷ at m);
           plain = v .plain;
           fits = λ g h j k m. inner g h j k (rw length-▷ at m);
         }
@@ -207,3 +216,19 @@ module _ {b : Book} (v : Kept b) where
             let here : length (b .inputs) ≡ p = omega (arith, ltb-false p (length (b .inputs)) e) in
             let mine : g ≡ length (b .sizes) - 1 = last-is (b .sizes) (length (b .inputs)) g j h k (v .last) (omega arith) in
             rw (new (b .inputs) i 0 p here, mine) (on .fits (v .fewEvents)))
+
+        -- the last gate may have got its last input
+        fed-right : (g : ℕ) → g < length (b .sizes) → sum (take g (b .sizes)) + getD (b .sizes) g 0 ≤ length (b .inputs) + 1
+            → wrongAt (b .kinds) (b .leasts) (b .sizes) (_▷_ (b .inputs) i) g ≡ false
+        fed-right g h m =
+            let p : ℕ = sum (take g (b .sizes)) + getD (b .sizes) g 0 in
+            either (ltb (length (b .inputs)) p)
+            (λ e.
+            let last : length (b .inputs) < p = ltb-true (length (b .inputs)) p e in
+            let some : 1 ≤ getD (b .sizes) g 0 = v .sizes g h .0 in
+            let mine : g ≡ length (b .sizes) - 1 = last-is (b .sizes) (length (b .inputs)) g (getD (b .sizes) g 0 - 1) h (omega arith) (v .last) (omega arith) in
+            let none : b .left - 1 ≡ 0 = omega (arith, v .wanted, sum-last (b .sizes) (omega arith), ap (λ (x : ℕ). sum (take x (b .sizes)) + getD (b .sizes) x 0) mine) in
+            rw mine (sym (by-last (b .kinds) (b .leasts) (b .sizes) (_▷_ (b .inputs) i) (counts (addInput b i next)) none) ∙ fed))
+            (λ e.
+            let before : p ≤ length (b .inputs) = ltb-false (length (b .inputs)) p e in
+            rw (inputs-more (b .sizes) (b .inputs) (i ∷ []) g before) (v .right g h before))

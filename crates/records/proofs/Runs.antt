@@ -1,6 +1,7 @@
 -- A run over some bytes: what a step does to it, and where it stands at a state.
 -- Assumes nothing.
 use mathlib.Core.Path.{_≡_, refl, sym, ap, _∙_}
+use mathlib.Core.Bool.{true, false}
 use mathlib.Core.List.{List}
 use Prim.Native.Nat.{ℕ, zero, suc, _+_, _-_, _≤_, _<_}
 use native.Mathlib.Numerals.{add-one}
@@ -9,10 +10,10 @@ use lib.ListN.{length, drop}
 use Rattle.paper.specs.Limits.{limits}
 use Rattle.rules.specs.Format.{recordOf}
 use Rattle.rules.specs.Rules.{stepOf}
-use Rattle.records.specs.Judge.{Book, start, counts, addEvent, addGate, addInput, accept, refuse, unusedBy, closeOf, run, outcome}
+use Rattle.records.specs.Judge.{Book, start, counts, addEvent, addGate, addInput, starved, lastPlace, thresholdStep, nextStep, accept, refuse, unusedBy, closeOf, run, outcome}
 use Rattle.rules.specs.States.{pastEvent, pastGate, pastInput, Bounded}
 use Rattle.rules.specs.declared.Answer.{Answer}
-use Rattle.rules.specs.declared.Answer.the-variants.{Unused}
+use Rattle.rules.specs.declared.Answer.the-variants.{Threshold, Unused}
 use Rattle.records.specs.declared.uses.Found.{Found}
 use Rattle.records.specs.declared.uses.Found.the-variants.{At, Nothing}
 use Rattle.rules.specs.declared.judge.State.{State}
@@ -21,26 +22,27 @@ use Rattle.rules.specs.declared.judge.Step.the-variants.{AddEvent, AddGate, Add
 use Rattle.rules.proofs.Steps.{OnEvent, OnGate, OnInput, OnClose, Sound, sound-step}
 use Rattle.records.proofs.Keeping.{Kept, kept-start, kept-event, kept-gate, kept-input, kept-bounded}
 use Rattle.records.proofs.Pad.{length-▷}
+use Rattle.records.proofs.Starving.{threshold-elim, threshold-fed}
 
 -- what a step does to the run
 module _ (turns : ℕ) (bytes : List ℕ) (b : Book) where
-  pub run-event : (c next : ℕ) → stepOf limits bytes (counts b) ≡ AddEvent c next → run limits (suc turns) bytes b ≡ run limits turns bytes (addEvent b c next)
+  pub run-event : (c next : ℕ) → nextStep limits bytes b ≡ AddEvent c next → run limits (suc turns) bytes b ≡ run limits turns bytes (addEvent b c next)
   unfolding run
   run-event c next e = rw (e, run)
 
-  pub run-gate : (kind k n next : ℕ) → stepOf limits bytes (counts b) ≡ AddGate kind k n next → run limits (suc turns) bytes b ≡ run limits turns bytes (addGate b kind k n next)
+  pub run-gate : (kind k n next : ℕ) → nextStep limits bytes b ≡ AddGate kind k n next → run limits (suc turns) bytes b ≡ run limits turns bytes (addGate b kind k n next)
   unfolding run
   run-gate kind k n next e = rw (e, run)
 
-  pub run-input : (i next : ℕ) → stepOf limits bytes (counts b) ≡ AddInput i next → run limits (suc turns) bytes b ≡ run limits turns bytes (addInput b i next)
+  pub run-input : (i next : ℕ) → nextStep limits bytes b ≡ AddInput i next → run limits (suc turns) bytes b ≡ run limits turns bytes (addInput b i next)
   unfolding run
   run-input i next e = rw (e, run)
 
-  pub run-close : stepOf limits bytes (counts b) ≡ Close → run limits (suc turns) bytes b ≡ closeOf b
+  pub run-close : nextStep limits bytes b ≡ Close → run limits (suc turns) bytes b ≡ closeOf b
   unfolding run
   run-close e = rw (e, run)
 
-  pub run-refused : (a : Answer) → stepOf limits bytes (counts b) ≡ Refused a → run limits (suc turns) bytes b ≡ refuse a
+  pub run-refused : (a : Answer) → nextStep limits bytes b ≡ Refused a → run limits (suc turns) bytes b ≡ refuse a
   unfolding run
   run-refused a e = rw (e, run)
 
@@ -68,8 +70,9 @@ module _ {bytes : List ℕ} {s : State} (v : Running bytes s) where
   pub go-on : (b : Book) (turns : ℕ) → v .turns ≡ suc turns → run limits (suc (v .turns)) bytes (v .book) ≡ run limits (v .turns) bytes b → run limits (suc turns) bytes b ≡ outcome limits bytes
   go-on b turns e r = ap (λ (n : ℕ). run limits n bytes b) (sym e) ∙ sym r ∙ v .same
 
-  pub step-is : {r : Step} → r ≡ stepOf limits bytes s → stepOf limits bytes (counts (v .book)) ≡ r
-  step-is e = sym (e ∙ ap (stepOf limits bytes) (v .state))
+  pub step-is : {r : Step} → r ≡ stepOf limits bytes s → nextStep limits bytes (v .book) ≡ thresholdStep (v .book) r
+  unfolding nextStep
+  step-is e = ap (thresholdStep (v .book)) (sym (e ∙ ap (stepOf limits bytes) (v .state)))
 
   pub running-sound : {r : Step} → r ≡ stepOf limits bytes s → Sound (length bytes) s (recordOf (drop (s .at) bytes)) r
   running-sound e = rw e (sound-step bytes s (v .within))
@@ -104,9 +107,9 @@ module _ {bytes : List ℕ} {s : State} (v : Running bytes s) where
         same = go-on _ turns d (run-gate _ _ _ kind k n next (step-is e));
       }
 
-  unfoldable pub running-input : (i next : ℕ) → AddInput i next ≡ stepOf limits bytes s
+  unfoldable pub running-input : (i next : ℕ) → AddInput i next ≡ stepOf limits bytes s → starved (addInput (v .book) i next) ≡ false
       → Running bytes (pastInput s next)
-  running-input i next e =
+  running-input i next e fed =
       let on = running-sound e in
       let (turns, d, j) = more next (on .further) (on .inside) in
       record {
@@ -115,9 +118,14 @@ module _ {bytes : List ℕ} {s : State} (v : Running bytes s) where
         state = rw (v .state, length-▷);
         within = on .inside;
         enough = j;
-        kept = kept-input (v .kept) (rw (v .state) at on);
-        same = go-on _ turns d (run-input _ _ _ i next (step-is e));
+        kept = kept-input (v .kept) (rw (v .state) at on) fed;
+        same = go-on _ turns d (run-input _ _ _ i next (step-is e ∙ rw fed));
       }
+
+  -- the last gate has got its inputs, and its k is wrong
+  pub running-starved : (i next : ℕ) → AddInput i next ≡ stepOf limits bytes s → starved (addInput (v .book) i next) ≡ true
+      → outcome limits bytes ≡ refuse (Threshold (lastPlace (v .book)))
+  running-starved i next e wrong = sym (v .same) ∙ run-refused _ _ _ (Threshold (lastPlace (v .book))) (step-is e ∙ rw wrong)
 
   pub running-close : Close ≡ stepOf limits bytes s → outcome limits bytes ≡ closeOf (v .book)
   running-close e = sym (v .same) ∙ run-close _ _ _ (step-is e)
@@ -129,6 +137,17 @@ module _ {bytes : List ℕ} {s : State} (v : Running bytes s) where
   running-bounded = rw (v .state) (kept-bounded (v .kept))
 
 -- ---- a run to its end
+
+-- what the next record does to a book is what the rules let it do
+pub sound-next : (bytes : List ℕ) (b : Book) → b .at ≤ length bytes → Sound (length bytes) (counts b) (recordOf (drop (b .at) bytes)) (nextStep limits bytes b)
+unfolding nextStep
+sound-next bytes b h =
+    threshold-elim b (Sound (length bytes) (counts b) (recordOf (drop (b .at) bytes))) (λ p q. let z : _≡_ {A = ℕ} 0 1 = cc in omega arith)
+    (stepOf limits bytes (counts b)) (sound-step bytes (counts b) h)
+
+pub next-fed : (bytes : List ℕ) (b : Book) {i next : ℕ} → nextStep limits bytes b ≡ AddInput i next → starved (addInput b i next) ≡ false
+unfolding nextStep
+next-fed bytes b e = threshold-fed b (stepOf limits bytes (counts b)) e
 
 pub close-is : (b b′ : Book) → closeOf b ≡ accept b′ → b ≡ b′
 unfolding closeOf
@@ -164,7 +183,7 @@ module _
   where
     along-step : (turns : ℕ) (b : Book) → Kept b → P b
         → ((x : Book) → Kept x → P x → x .at ≤ length bytes → run limits turns bytes x ≡ accept b′ → Closed bytes P b′)
-        → run limits (suc turns) bytes b ≡ accept b′ → (x : Step) → stepOf limits bytes (counts b) ≡ x
+        → run limits (suc turns) bytes b ≡ accept b′ → (x : Step) → nextStep limits bytes b ≡ x
         → Sound (length bytes) (counts b) (recordOf (drop (b .at) bytes)) x → Closed bytes P b′
     along-step turns b k p on e (AddEvent c next) q s =
         on (addEvent b c next) (kept-event k s) (event b c next k p s) (s .inside) (sym (run-event turns bytes b c next q) ∙ e)
@@ -172,7 +191,7 @@ module _
         on (addGate b kind least n next) (kept-gate k (drop (b .at) bytes) refl s) (gate b kind least n next k p s) (s .inside)
         (sym (run-gate turns bytes b kind least n next q) ∙ e)
     along-step turns b k p on e (AddInput i next) q s =
-        on (addInput b i next) (kept-input k s) (input b i next k p s) (s .inside) (sym (run-input turns bytes b i next q) ∙ e)
+        on (addInput b i next) (kept-input k s (next-fed bytes b q)) (input b i next k p s) (s .inside) (sym (run-input turns bytes b i next q) ∙ e)
     along-step turns b k p on e Close q s =
         let closed : closeOf b ≡ accept b′ = sym (run-close turns bytes b q) ∙ e in
         rw (← close-is b b′ closed) (record { kept = k; used = close-none b b′ closed; close = s; holds = p })
@@ -182,7 +201,7 @@ module _
     along : (turns : ℕ) (b : Book) → Kept b → P b → b .at ≤ length bytes → run limits turns bytes b ≡ accept b′ → Closed bytes P b′
     unfolding run
     along zero b k p h e = let z : _≡_ {A = ℕ} 0 1 = cc in absurd (omega arith)
-    along (suc turns) b k p h e = along-step turns b k p (along turns) e (stepOf limits bytes (counts b)) refl (sound-step bytes (counts b) h)
+    along (suc turns) b k p h e = along-step turns b k p (along turns) e (nextStep limits bytes b) refl (sound-next bytes b h)
 
     pub accepted-keeps : P start → outcome limits bytes ≡ accept b′ → Closed bytes P b′
     unfolding outcome

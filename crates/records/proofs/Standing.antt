@@ -1,22 +1,27 @@
 -- Where the loop of `read` stands: a run at a state, and a tree whose arrays hold the run's book.
 -- Assumes nothing.
-use mathlib.Core.Path.{_≡_, refl, ap}
+use mathlib.Core.Path.{_≡_, refl, sym, ap, _∙_}
+use mathlib.Core.Bool.{Bool, true, false}
 use mathlib.Core.List.{List, []}
-use Prim.Native.Nat.{ℕ, _<_}
+use Prim.Native.Nat.{ℕ, _-_, _≤_, _<_}
 use native.Mathlib.Omega.{arith}
-use lib.ListN.{length, set}
+use lib.ListN.{length, getD, set}
 use Rattle.paper.specs.Limits.{limits}
 use Rattle.rules.specs.Rules.{stepOf}
-use Rattle.records.specs.Judge.{Book, start, counts, addEvent, addGate, addInput}
+use Rattle.records.specs.Judge.{Book, start, counts, addEvent, addGate, addInput, starved, refuse, outcome}
+use Rattle.records.specs.Thresholds.{starvedBy}
 use Rattle.rules.specs.States.{pastEvent, pastGate, pastInput}
 use Rattle.records.specs.Memory.{pad, memory}
-use Rattle.records.specs.Inner.{Fronts, Held}
+use Rattle.records.specs.Inner.{Counted, Fronts, Held}
+use Rattle.rules.specs.declared.Answer.the-variants.{Threshold}
 use Rattle.rules.specs.declared.judge.State.{State}
 use Rattle.rules.specs.declared.judge.Step.the-variants.{AddEvent, AddGate, AddInput}
 use Rattle.records.specs.declared.Tree.{Tree}
 use Rattle.records.proofs.Keeping.{Kept}
-use Rattle.records.proofs.Pad.{pad-take, pad-fill}
-use Rattle.records.proofs.Runs.{Running, running-start, running-sound, running-event, running-gate, running-input}
+use Rattle.records.proofs.Pad.{pad-take, pad-getD, pad-fill}
+use Rattle.records.proofs.Starving.{LastTold}
+use Rattle.records.proofs.Feeding.{input-gate, counted-input, starved-input, place-in}
+use Rattle.records.proofs.Runs.{Running, running-start, running-sound, running-event, running-gate, running-input, running-starved}
 
 -- the tree after a store
 abbrev pub withEvent : Tree → ℕ → ℕ → Tree
@@ -125,6 +130,18 @@ module _ {b : Book} {t : Tree} {ps : List ℕ} (h : Held b t ps) where
     pub held-fronts : Fronts b (t .sizes) ps (t .inputs)
     held-fronts = arrays-fronts (record { sizes = h .sizes; places = h .places; inputs = h .inputs }) kept
 
+  -- and what the search for the last gate's distinct inputs does
+  held-last : length (b .kinds) ≡ length (b .sizes) → length (b .leasts) ≡ length (b .sizes) → 1 ≤ length (b .sizes)
+      → LastTold b (t .kinds) (t .leasts) (t .sizes) (t .inputs)
+  held-last kinds leasts some =
+      let g : ℕ = length (b .sizes) - 1 in
+      record {
+        kind = rw (h .kinds) (pad-getD (limits .gates) 0 (b .kinds) g 0 (omega arith));
+        least = λ _. rw (h .leasts) (pad-getD (limits .gates) 0 (b .leasts) g 0 (omega arith));
+        sizes = rw (h .sizes) (pad-take _ _ _);
+        inputs = rw (h .inputs) (pad-take _ _ _);
+      }
+
   pub held-memory : {s : State} → s ≡ counts b → (record {
     events = t .events;
     «event_count» = s .events;
@@ -183,10 +200,28 @@ module _ {bytes : List ℕ} {t : Tree} {ps : List ℕ} {s : State} (v : Standing
         held = rw (ap (λ (x : State). x .gates) p, ap (λ (x : State). x .at) p) (held-gate (v .held) (v .running .kept) kind k n next (rw p at (on .few)));
       }
 
-  pub standing-input : (i next : ℕ) → AddInput i next ≡ stepOf limits bytes s
-      → Standing bytes (withInput t (s .inputs) i) ps (pastInput s next)
-  unfolding running-input
-  standing-input i next e =
-      let on = running-sound (v .running) e in
-      let p = v .running .state in
-      record { running = running-input (v .running) i next e; held = rw (ap (λ (x : State). x .inputs) p) (held-input (v .held) (v .running .kept) i next (rw p at (on .some))) }
+  -- past an input: what the arrays tell of the last gate
+  module _ {i next : ℕ} (e : AddInput i next ≡ stepOf limits bytes s) where
+    abbrev fed : Bool
+    fed = starvedBy (t .kinds) (t .leasts) (t .sizes) (set (t .inputs) (s .inputs) i) (pastInput s next)
+
+    held-next : Held (addInput (v .running .book) i next) (withInput t (s .inputs) i) ps
+    held-next =
+        let p = v .running .state in
+        rw (ap (λ (x : State). x .inputs) p) (held-input (v .held) (v .running .kept) i next (rw p at (running-sound (v .running) e .some)))
+
+    pub standing-counted : Counted (t .sizes) (pastInput s next)
+    standing-counted = counted-input (v .running) e (rw (v .held .sizes) (pad-take _ _ _))
+
+    standing-told : fed ≡ starved (addInput (v .running .book) i next)
+    standing-told = starved-input (v .running) e (held-last held-next (v .running .kept .sameKinds) (v .running .kept .sameLeasts) (input-gate (v .running) e))
+
+    pub standing-input : fed ≡ false → Standing bytes (withInput t (s .inputs) i) ps (pastInput s next)
+    unfolding running-input
+    standing-input q = record { running = running-input (v .running) i next e (sym standing-told ∙ q); held = held-next }
+
+    -- the place of the gate's record
+    pub standing-starved : fed ≡ true → outcome limits bytes ≡ refuse (Threshold (getD ps (s .gates - 1) 0))
+    standing-starved q =
+        running-starved (v .running) i next e (sym standing-told ∙ q)
+        ∙ ap (λ (p : ℕ). refuse (Threshold p)) (sym (place-in (v .running) e (v .held .places)))

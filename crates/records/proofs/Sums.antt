@@ -1,13 +1,13 @@
 -- Laws of lists that grow at the end, of their sums, and of how many of their members are low.
 -- Assumes nothing.
-use mathlib.Core.Path.{_≡_, refl, ap}
+use mathlib.Core.Path.{_≡_, refl, sym, ap, _∙_}
 use mathlib.Core.Bool.{Bool, true}
 use mathlib.Core.List.{List, [], _∷_}
 use Prim.Native.Nat.{ℕ, zero, suc, _+_, _-_, _≤_, _<_}
 use native.Mathlib.Omega.{arith}
 use native.Mathlib.Numerals.{add-one}
 use lib.ListN.{length, getD, take, List·getD-append}
-use lib.Seq.{take-suc, take-append-le, getD-append-seam}
+use lib.Seq.{take-nil, take-all, take-append-le, getD-append-seam}
 use lib.Dec.{ltb, eqb}
 use borrow.Author.Tests.{ltb-true, ltb-false, lt-ltb, le-ltb, eqb-true}
 use borrow.Author.Count.{below-more}
@@ -31,18 +31,38 @@ module _ {A : Type 0} (xs : List A) (x d : A) where
   all-▷ P all here i h =
       below-more (λ (k : ℕ). P k (getD (_▷_ xs x) k d)) (length xs) (λ k l. rw (old k l) (all k l)) (rw (new (length xs) refl) here) i (rw length-▷ at h)
 
+pub some-sizes : (ns : List ℕ) → 0 < sum ns → 0 < length ns
+some-sizes [] h = absurd (omega arith)
+some-sizes (n ∷ ns) h = omega arith
+
 pub sum-▷ : (ns : List ℕ) (n : ℕ) → sum (_▷_ ns n) ≡ sum ns + n
 sum-▷ [] n = omega arith
 sum-▷ (m ∷ ns) n = rw (sum-▷ ns n) (omega arith)
 
+-- one more of them, or nothing where there is no more
+sum-suc : (ns : List ℕ) (g : ℕ) → sum (take (suc g) ns) ≡ sum (take g ns) + getD ns g 0
+sum-suc [] g = rw (take-nil (suc g), take-nil g)
+sum-suc (n ∷ ns) zero = omega arith
+sum-suc (n ∷ ns) (suc g) = omega (arith, sum-suc ns g)
+
+pub sum-next : (ns : List ℕ) (g : ℕ) → sum (take (g + 1) ns) ≡ sum (take g ns) + getD ns g 0
+sum-next ns g = rw add-one (sum-suc ns g)
+
 pub sum-take : (ns : List ℕ) (g : ℕ) → g < length ns → sum (take (g + 1) ns) ≡ sum (take g ns) + getD ns g 0
-sum-take ns g h = rw (add-one, take-suc ns g 0 h) (sum-▷ (take g ns) (getD ns g 0))
+sum-take ns g h = sum-next ns g
 
 pub sum-rises : (ns : List ℕ) (g h : ℕ) → g ≤ h → sum (take g ns) ≤ sum (take h ns)
 sum-rises ns zero h e = omega arith
 sum-rises [] (suc g) h e = omega arith
 sum-rises (n ∷ ns) (suc g) zero e = absurd (omega arith)
 sum-rises (n ∷ ns) (suc g) (suc h) e = let r : sum (take g ns) ≤ sum (take h ns) = sum-rises ns g h (omega arith) in omega arith
+
+-- all but the last, and the last
+pub sum-last : (ns : List ℕ) → 1 ≤ length ns → sum (take (length ns - 1) ns) + getD ns (length ns - 1) 0 ≡ sum ns
+sum-last ns h =
+    let g : ℕ = length ns - 1 in
+    let all : g + 1 ≡ length ns = omega arith in
+    sym (sum-next ns g) ∙ ap (λ (n : ℕ). sum (take n ns)) all ∙ ap sum (take-all (length ns) ns (omega arith))
 
 pub sum-old : (ns : List ℕ) (n g : ℕ) → g ≤ length ns → sum (take g (_▷_ ns n)) ≡ sum (take g ns)
 sum-old ns n g h = ap sum (take-append-le g ns (n ∷ []) h)
@@ -92,5 +112,5 @@ all-below xs (suc m) all =
 pub last-is : (ns : List ℕ) (N g j : ℕ) → g < length ns → j < getD ns g 0 → sum (take (length ns - 1) ns) ≤ N → N ≤ sum (take g ns) + j → g ≡ length ns - 1
 last-is ns N g j h k before here =
     either (ltb (g + 1) (length ns))
-    (λ e. let l : g + 1 < length ns = ltb-true (g + 1) (length ns) e in absurd (omega (arith, sum-take ns g h, sum-rises ns (g + 1) (length ns - 1) (omega arith))))
+    (λ e. let l : g + 1 < length ns = ltb-true (g + 1) (length ns) e in absurd (omega (arith, sum-next ns g, sum-rises ns (g + 1) (length ns - 1) (omega arith))))
     (λ e. omega (arith, ltb-false (g + 1) (length ns) e))

@@ -1,8 +1,8 @@
 -- What the functions inside ask of their callers and tell them.
-use Prim.Native.Nat.{ℕ, _+_, _≤_, _<_}
+use Prim.Native.Nat.{ℕ, _+_, _-_, _≤_, _<_}
 use mathlib.Core.Path.{_≡_}
 use mathlib.Core.List.{List}
-use lib.ListN.{length, take}
+use lib.ListN.{length, getD, take}
 use Rattle.paper.specs.Limits.{limits}
 use Rattle.paper.specs.Lists.{sum}
 use Rattle.records.specs.Judge.{Book, counts, unusedBy, closeOf}
@@ -17,6 +17,14 @@ use Rattle.records.specs.declared.uses.Found.the-variants.{At, Nothing}
 abbrev pub Below : ℕ → Found → Type 0
 Below n (At i) = i < n
 Below n Nothing = Unit {0}
+
+-- what the search for the last gate's distinct inputs asks of a tree: a gate, within the limits, and as many inputs wanted as the gates have
+pub record Counted (sizes : List ℕ) (s : State) : Type 0 where
+  pub some : 1 ≤ s .gates
+  pub few : s .gates ≤ limits .gates
+  pub small : getD sizes (s .gates - 1) 0 ≤ limits .inputs
+  pub wanted : sum (take (s .gates) sizes) ≡ s .inputs + s .left
+  pub room : s .inputs ≤ limits .inAll
 
 -- what the search for an unused item asks of a tree: within the limits, a gate, a place for each gate, and as many inputs as the gates want
 pub record Complete (events : ℕ) (sizes places inputs : List ℕ) : Type 0 where

@@ -1,16 +1,20 @@
 -- Reading goes record by record, and the first faulty record decides.
 use Prim.Native.Nat.{ℕ, zero, suc, _+_, _-_}
+use mathlib.Core.Bool.{Bool}
 use mathlib.Core.List.{List, [], _∷_, _++_}
-use lib.ListN.{length}
+use lib.ListN.{length, getD}
 use Rattle.paper.specs.Answers.{Verdict}
 use Rattle.paper.specs.Limits.{Limits}
 use Rattle.rules.specs.Answers.{verdict}
+use Rattle.rules.specs.Choice.{if_then_else_}
 use Rattle.rules.specs.Rules.{stepOf}
+use Rattle.records.specs.Thresholds.{starvedBy}
 use Rattle.records.specs.Uses.{unusedOf}
 use Rattle.rules.specs.declared.Answer.{Answer}
-use Rattle.rules.specs.declared.Answer.the-variants.{Done, Cut, Unused}
+use Rattle.rules.specs.declared.Answer.the-variants.{Done, Cut, Threshold, Unused}
 use Rattle.records.specs.declared.Event.{Event}
 use Rattle.rules.specs.declared.judge.State.{State}
+use Rattle.rules.specs.declared.judge.Step.{Step}
 use Rattle.rules.specs.declared.judge.Step.the-variants.{AddEvent, AddGate, AddInput, Close, Refused}
 use Rattle.records.specs.declared.uses.Found.{Found}
 use Rattle.records.specs.declared.uses.Found.the-variants.{At, Nothing}
@@ -73,6 +77,26 @@ addInput b i next = record {
   inputs = _▷_ (b .inputs) i;
 }
 
+-- whether the last gate has all its inputs, and its k is 0 or above the number of the distinct ones
+abbrev pub starved : Book → Bool
+starved b = starvedBy (b .kinds) (b .leasts) (b .sizes) (b .inputs) (counts b)
+
+-- the place of the last gate's record
+abbrev pub lastPlace : Book → ℕ
+lastPlace b = getD (b .places) (length (b .sizes) - 1) 0
+
+-- number 5 is decided after a gate's last input and before the next record is looked at, at the place of the gate's record
+abbrev pub thresholdStep : Book → Step → Step
+thresholdStep b (AddInput i next) = if starved (addInput b i next) then Refused (Threshold (lastPlace b)) else AddInput i next
+thresholdStep b (AddEvent c next) = AddEvent c next
+thresholdStep b (AddGate kind k n next) = AddGate kind k n next
+thresholdStep b Close = Close
+thresholdStep b (Refused a) = Refused a
+
+-- what the next record of the bytes does to b
+unfoldable pub nextStep : Limits → List ℕ → Book → Step
+nextStep L bytes b = thresholdStep b (stepOf L bytes (counts b))
+
 pub data Outcome : Type 0 where
   accept : Book → Outcome
   refuse : Answer → Outcome
@@ -88,7 +112,7 @@ closeOf b = elim (unusedBy b) [ At place ↦ refuse (Unused place) | Nothing ↦
 unfoldable pub run : Limits → ℕ → List ℕ → Book → Outcome
 run L zero bytes b = refuse (Cut (length bytes))
 run L (suc turns) bytes b =
-    elim (stepOf L bytes (counts b)) [
+    elim (nextStep L bytes b) [
       | AddEvent c next ↦ run L turns bytes (addEvent b c next)
       | AddGate kind k n next ↦ run L turns bytes (addGate b kind k n next)
       | AddInput i next ↦ run L turns bytes (addInput b i next)

@@ -10,6 +10,7 @@ use Rattle.paper.specs.Trees.{Input, event, gate, Gate, andG, orG, leastG, Tree
 use Rattle.paper.specs.Flat.{gatesFrom, gatesOf}
 use Rattle.rules.specs.Rules.{Fits}
 use Rattle.records.specs.Uses.{among}
+use Rattle.records.specs.Thresholds.{distinctAt}
 use Rattle.records.specs.Judge.{Book}
 use Rattle.records.specs.Memory.{noEvent}
 use Rattle.records.specs.declared.Event.{Event}
@@ -41,7 +42,7 @@ pub record Lawful (L : Limits) (b : Book) : Type 0 where
   pub chances : (e : ℕ) → e < length (b .events) → getD (b .events) e noEvent .chance ≤ billion
   pub kinds : (g : ℕ) → g < length (b .sizes) → (2 ≤ getD (b .kinds) g 0) × (getD (b .kinds) g 0 ≤ 4)
   pub sizes : (g : ℕ) → g < length (b .sizes) → (1 ≤ getD (b .sizes) g 0) × (getD (b .sizes) g 0 ≤ L .inputs)
-  pub leasts : (g : ℕ) → g < length (b .sizes) → getD (b .kinds) g 0 ≡ 4 → (1 ≤ getD (b .leasts) g 0) × (getD (b .leasts) g 0 ≤ getD (b .sizes) g 0)
+  pub leasts : (g : ℕ) → g < length (b .sizes) → getD (b .kinds) g 0 ≡ 4 → (1 ≤ getD (b .leasts) g 0) × (getD (b .leasts) g 0 ≤ distinctAt (b .sizes) (b .inputs) g)
   pub plain : (g : ℕ) → g < length (b .sizes) → (getD (b .kinds) g 0 ≡ 4 → ⊥) → getD (b .leasts) g 0 ≡ 0
   pub inputs : (g : ℕ) → g < length (b .sizes) → (i : ℕ) → i < getD (b .sizes) g 0
       → Fits (length (b .events)) g (getD (b .inputs) (sum (take g (b .sizes)) + i) 0)

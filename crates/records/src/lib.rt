@@ -1,4 +1,5 @@
 // Tree records: any bytes judged by the paper's rules and read into a tree in memory.
+pub mod thresholds; // a gate's k against its distinct inputs: number 5
 pub mod uses; // the search for an item that is an input nowhere: number 8
 
 use paper::EVENTS;
@@ -12,6 +13,7 @@ use rules::judge::next;
 use rules::judge::past_event;
 use rules::judge::past_gate;
 use rules::judge::past_input;
+use thresholds::starved;
 use uses::Found;
 use uses::unused_in;
 ghost use mathlib.Core.Path.{_≡_};
@@ -117,6 +119,10 @@ pub fn read(bytes: &[u8]) -> Reading
             Step::AddInput(code, after) => {
                 t.inputs[i] = code;
                 s = past_input(s, after);
+                if starved(&t.kinds, &t.leasts, &t.sizes, &t.inputs, s) {
+                    let gate = places[g - 1];
+                    return refused(Answer::Threshold(gate));
+                }
             }
             Step::Close => return finish(t, places, s),
             Step::Refused(a) => return refused(a),

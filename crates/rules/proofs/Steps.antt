@@ -1,7 +1,6 @@
 -- What a step tells of the state that it was taken in, and of the record.
 -- Assumes nothing.
 use mathlib.Core.Path.{_≡_, refl, ap}
-use mathlib.Core.Bool.{false}
 use mathlib.Core.List.{List}
 use Prim.Native.Nat.{ℕ, _+_, _-_, _≤_, _<_}
 use native.Mathlib.Omega.{arith}
@@ -12,7 +11,7 @@ use Rattle.paper.specs.Limits.{limits, billion}
 use Rattle.rules.specs.Answers.{verdict}
 use Rattle.rules.specs.Format.{recordOf, widthOf}
 use Rattle.paper.specs.Flat.{gatesFrom}
-use Rattle.rules.specs.Rules.{wrongK, eventStep, gateStep, eventInputStep, gateInputStep, endStep, admitOf, stepOf, Fits}
+use Rattle.rules.specs.Rules.{eventStep, gateStep, eventInputStep, gateInputStep, endStep, admitOf, stepOf, Fits}
 use Rattle.rules.specs.declared.Answer.{Answer}
 use Rattle.rules.specs.declared.Answer.the-variants.{Done}
 use Rattle.rules.specs.declared.format.Record.{Record}
@@ -73,7 +72,6 @@ pub record OnGate (len : ℕ) (s : State) (r : Record) (kind k n next : ℕ) : T
   pub room : s .inputs + n ≤ limits .inAll
   pub place : next ≡ s .at + widthOf r
   pub shape : r ≡ Gate kind k n
-  pub right : wrongK kind k n ≡ false
 
 pub record OnInput (len : ℕ) (s : State) (r : Record) (i next : ℕ) : Type 0 where
   pub further : s .at < next
@@ -127,8 +125,7 @@ module _ (len : ℕ) (s : State) where
       (λ b. if-elim P (eqb n 0) (λ _. refusal (omega arith))
       (λ z. if-elim P (ltb (limits .inputs) n) (λ _. refusal (omega arith))
       (λ m. if-elim P (ltb (limits .inAll) (s .inputs + n)) (λ _. refusal (omega arith))
-      (λ d. if-elim P (wrongK kind k n) (λ _. refusal (omega arith))
-      (λ w. record {
+      (λ d. record {
         further = omega (arith, gate-small kind k n);
         inside = h;
         few = leb-false (limits .gates) (s .gates) b;
@@ -138,8 +135,7 @@ module _ (len : ℕ) (s : State) where
         room = ltb-false (limits .inAll) (s .inputs + n) d;
         place = refl;
         shape = refl;
-        right = w;
-      }))))))
+      })))))
 
   sound-event-input : (i : ℕ) → s .at + 2 ≤ len → Sound len s (EventInput i) (eventInputStep s (s .at + 2) i)
   sound-event-input i h =

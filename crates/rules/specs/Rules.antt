@@ -1,4 +1,4 @@
--- What a record does at a place of the reading: the paper's numbers 1 to 7, in their order. The limits are parameters.
+-- What a record does at a place of the reading: the paper's numbers 1 to 7 but 5, in their order. The limits are parameters.
 use Prim.Native.Nat.{ℕ, _+_, _<_}
 use mathlib.Core.Bool.{Bool, true, false}
 use mathlib.Core.List.{List}
@@ -8,7 +8,7 @@ use Rattle.paper.specs.Limits.{Limits, billion}
 use Rattle.rules.specs.Choice.{if_then_else_}
 use Rattle.rules.specs.Format.{recordOf, widthOf}
 use Rattle.paper.specs.Flat.{gatesFrom}
-use Rattle.rules.specs.declared.Answer.the-variants.{Cut, UnknownKind, OutOfPlace, Count, Threshold, Reference, Chance}
+use Rattle.rules.specs.declared.Answer.the-variants.{Cut, UnknownKind, OutOfPlace, Count, Reference, Chance}
 use Rattle.rules.specs.declared.format.Record.{Record}
 use Rattle.rules.specs.declared.format.Record.the-variants.{Missing, Unknown, Short, Event, Gate, EventInput, GateInput, End}
 use Rattle.rules.specs.declared.judge.State.{State}
@@ -23,10 +23,6 @@ eventStep L s after c =
     if ltb billion c then Refused (Chance (s .at)) else
     AddEvent c after
 
--- k is 0 or above n, in a gate that has a k
-abbrev pub wrongK : ℕ → ℕ → ℕ → Bool
-wrongK kind k n = if eqb kind 4 then (if eqb k 0 then true else ltb n k) else false
-
 abbrev pub gateStep : Limits → State → ℕ → ℕ → ℕ → ℕ → Step
 gateStep L s after kind k n =
     if ltb 0 (s .left) then Refused (OutOfPlace (s .at)) else
@@ -34,8 +30,11 @@ gateStep L s after kind k n =
     if eqb n 0 then Refused (Count (s .at)) else
     if ltb (L .inputs) n then Refused (Count (s .at)) else
     if ltb (L .inAll) (s .inputs + n) then Refused (Count (s .at)) else
-    if wrongK kind k n then Refused (Threshold (s .at)) else
     AddGate kind k n after
+
+-- k is 0 or above n, in a gate that has a k; number 5 waits for the gate's inputs, since n is how many of them are distinct
+abbrev pub wrongK : ℕ → ℕ → ℕ → Bool
+wrongK kind k n = if eqb kind 4 then (if eqb k 0 then true else ltb n k) else false
 
 abbrev pub eventInputStep : State → ℕ → ℕ → Step
 eventInputStep s after e =

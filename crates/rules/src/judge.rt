@@ -1,4 +1,4 @@
-// What a record does at a place of the reading: the paper's numbers 1 to 7.
+// What a record does at a place of the reading: the paper's numbers 1 to 7 but 5, which waits for the gate's inputs.
 use crate::Answer;
 use crate::format::Record;
 use crate::format::decode;
@@ -106,19 +106,6 @@ fn admit_event(s: State, after: usize, c: u32) -> Step
     Step::AddEvent(c, after)
 }
 
-// Whether k is 0 or above n, in a gate that has a k.
-fn wrong_k(kind: u8, k: u8, n: u8) -> bool
-    ensures { λ r. ⌜ r ≡ wrongK kind k n ⌝ }
-{
-    if kind == 4 {
-        if k == 0 {
-            return true;
-        }
-        return n < k;
-    }
-    false
-}
-
 fn admit_gate(s: State, after: usize, kind: u8, k: u8, n: u8) -> Step
     requires { ⌜ Bounded s ⌝ }
     ensures { λ r. ⌜ r ≡ gateStep limits s after kind k n ⌝ }
@@ -138,10 +125,20 @@ fn admit_gate(s: State, after: usize, kind: u8, k: u8, n: u8) -> Step
     if IN_ALL < s.inputs + (n as usize) {
         return Step::Refused(Answer::Count(s.at));
     }
-    if wrong_k(kind, k, n) {
-        return Step::Refused(Answer::Threshold(s.at));
-    }
     Step::AddGate(kind, k, n, after)
+}
+
+// Whether k is 0 or above n, in a gate that has a k.
+pub fn wrong_k(kind: u8, k: u8, n: usize) -> bool
+    ensures { λ r. ⌜ r ≡ wrongK kind k n ⌝ }
+{
+    if kind == 4 {
+        if k == 0 {
+            return true;
+        }
+        return n < (k as usize);
+    }
+    false
 }
 
 fn admit_event_input(s: State, after: usize, e: u8) -> Step

@@ -1,6 +1,6 @@
 // The rules of single records: what a record is, and what it does at a place of the reading.
 pub mod format; // the records: what stands at the front of some bytes
-pub mod judge; // what a record does at a place of the reading: numbers 1 to 7
+pub mod judge; // what a record does at a place of the reading: numbers 1 to 7 but 5
 
 ghost use mathlib.Core.Path.{_≡_};
 ghost use Rattle.rules.specs.Answers.{verdict};

@@ -147,16 +147,16 @@ pub fn add_tree(
 // ---- the end
 
 // Whether it is the first tree's own 1 to 9, so that nothing was written yet.
-pub fn at_once(number: u8, tree: usize) -> bool
-    ensures { λ r. ⌜ Says r ((tree ≡ 0) × (1 ≤ number) × (number ≤ 9)) ⌝ }
+pub fn at_once(refusal: u8, tree: usize) -> bool
+    ensures { λ r. ⌜ Says r ((tree ≡ 0) × (1 ≤ refusal) × (refusal ≤ 9)) ⌝ }
 {
     if tree != 0 {
         return false;
     }
-    if number == 0 {
+    if refusal == 0 {
         return false;
     }
-    if 9 < number {
+    if 9 < refusal {
         return false;
     }
     true

@@ -7,8 +7,9 @@ use Rattle.paper.specs.Limits.{limits}
 use Rattle.paper.specs.Answers.{Verdict}
 use Rattle.rules.specs.Format.{recordOf, bodyOf}
 use Rattle.rules.specs.Rules.{admitOf, stepOf}
+use Rattle.records.specs.Thresholds.{starvedBy}
 use Rattle.records.specs.Uses.{among, lowestUnused, unusedOf}
-use Rattle.records.specs.Judge.{judge, outcome, run, closeOf}
+use Rattle.records.specs.Judge.{judge, outcome, run, nextStep, closeOf}
 use Rattle.rules.specs.declared.Answer.the-variants.{Count}
 use Rattle.rules.specs.declared.format.Record.{Record}
 use Rattle.rules.specs.declared.format.Record.the-variants.{Gate}
@@ -60,16 +61,18 @@ table =
     ∷ row (event ++ (ors 65 ++ end)) 4 5
     ∷ row (events256 ++ end) 0 0
     ∷ row (event ++ (events256 ++ end)) 4 1280
-    -- chance D, and k of n
+    -- chance D, and k of n: of three inputs that are distinct, and of two that are
     ∷ row (1 ∷ 0x00 ∷ 0xCA ∷ 0x9A ∷ 0x3B ∷ (ors 1 ++ end)) 0 0
     ∷ row (1 ∷ 0x01 ∷ 0xCA ∷ 0x9A ∷ 0x3B ∷ (ors 1 ++ end)) 7 0
-    ∷ row (event ++ (4 ∷ 3 ∷ 3 ∷ (times 3 (eventIn 0) ++ end))) 0 0
-    ∷ row (event ++ (4 ∷ 4 ∷ 3 ∷ (times 3 (eventIn 0) ++ end))) 5 5
+    ∷ row (times 3 event ++ (4 ∷ 3 ∷ 3 ∷ (each 3 0 eventIn ++ end))) 0 0
+    ∷ row (times 3 event ++ (4 ∷ 4 ∷ 3 ∷ (each 3 0 eventIn ++ end))) 5 15
+    ∷ row (times 2 event ++ (4 ∷ 2 ∷ 3 ∷ (eventIn 1 ++ (each 2 0 eventIn ++ end)))) 0 0
+    ∷ row (times 2 event ++ (4 ∷ 3 ∷ 3 ∷ (eventIn 1 ++ (each 2 0 eventIn ++ end)))) 5 10
     ∷ []
 
 -- THE LIMITS of a gate's inputs, of events, of a chance and of k
 at-and-beyond : map (λ (r : Row). judge limits (r .bytes)) table ≡ map (λ (r : Row). r .answer) table
-unfolding judge outcome run stepOf recordOf bodyOf closeOf unusedOf lowestUnused among
+unfolding judge outcome run nextStep starvedBy stepOf recordOf bodyOf closeOf unusedOf lowestUnused among
 at-and-beyond = refl
 
 -- a record met where so many gates and inputs are there, each gate having its inputs

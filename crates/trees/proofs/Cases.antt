@@ -10,8 +10,9 @@ use Rattle.paper.specs.Flat.{gatesOf}
 use Rattle.paper.specs.Cases.{tenth, three, first, twoOfThree}
 use Rattle.rules.specs.Format.{recordOf, bodyOf}
 use Rattle.rules.specs.Rules.{stepOf}
+use Rattle.records.specs.Thresholds.{starvedBy}
 use Rattle.records.specs.Uses.{among, lowestUnused, unusedOf}
-use Rattle.records.specs.Judge.{outcome, run, closeOf, Outcome, accept, refuse}
+use Rattle.records.specs.Judge.{outcome, run, nextStep, closeOf, Outcome, accept, refuse}
 use Rattle.records.specs.Trees.{treeOf}
 
 -- the tree of an outcome; of a refusal, none
@@ -37,5 +38,5 @@ case6 = tenths ++ (0x04 ∷ 0x02 ∷ 0x03 ∷ 0x05 ∷ 0x00 ∷ 0x05 ∷ 0x01 �
 
 -- THE TREES OF THE PAPER'S BYTES
 the-papers-trees : map (λ b. trees (outcome limits b)) (case1 ∷ case6 ∷ []) ≡ (first ∷ []) ∷ (twoOfThree ∷ []) ∷ []
-unfolding outcome run stepOf recordOf bodyOf closeOf unusedOf lowestUnused among treeOf gatesOf tenth three first twoOfThree
+unfolding outcome run nextStep starvedBy stepOf recordOf bodyOf closeOf unusedOf lowestUnused among treeOf gatesOf tenth three first twoOfThree
 the-papers-trees = refl

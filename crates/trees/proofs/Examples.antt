@@ -7,8 +7,9 @@ use Rattle.paper.specs.Limits.{limits}
 use Rattle.paper.specs.Answers.{Verdict}
 use Rattle.rules.specs.Format.{recordOf, bodyOf}
 use Rattle.rules.specs.Rules.{stepOf}
+use Rattle.records.specs.Thresholds.{starvedBy}
 use Rattle.records.specs.Uses.{among, lowestUnused, unusedOf}
-use Rattle.records.specs.Judge.{judge, outcome, run, closeOf}
+use Rattle.records.specs.Judge.{judge, outcome, run, nextStep, closeOf}
 
 record Row : Type 0 where
   bytes : List ℕ
@@ -52,7 +53,20 @@ table =
     ∷ row (ev ++ (2 ∷ 1 ∷ 5 ∷ 0 ∷ ev)) 3 9
     ∷ row (ev ++ (2 ∷ 0 ∷ [])) 4 5
     ∷ row (ev ++ (4 ∷ 65 ∷ 65 ∷ [])) 4 5
-    ∷ row (ev ++ (4 ∷ 2 ∷ 1 ∷ [])) 5 5
+    ∷ row (ev ++ (4 ∷ 0 ∷ 0 ∷ [])) 4 5
+    -- 5 comes after the gate's last input and before the next record, at the gate's record
+    ∷ row (ev ++ (4 ∷ 2 ∷ 1 ∷ [])) 1 8
+    ∷ row (ev ++ (4 ∷ 2 ∷ 1 ∷ 5 ∷ 0 ∷ [])) 5 5
+    ∷ row (ev ++ (4 ∷ 0 ∷ 1 ∷ 5 ∷ 0 ∷ 9 ∷ [])) 5 5
+    ∷ row (ev ++ (4 ∷ 3 ∷ 2 ∷ 5 ∷ 0 ∷ 5 ∷ 1 ∷ [])) 6 10
+    ∷ row (ev ++ (4 ∷ 0 ∷ 2 ∷ 5 ∷ 0 ∷ 9 ∷ [])) 2 10
+    ∷ row (ev ++ (4 ∷ 3 ∷ 2 ∷ 5 ∷ 0 ∷ [])) 1 10
+    ∷ row (ev ++ (4 ∷ 3 ∷ 2 ∷ 5 ∷ 0 ∷ 2 ∷ 1 ∷ [])) 3 10
+    -- a twin counts once; event 0 and gate 0 are two, and so are two gates with one function
+    ∷ row (ev ++ (ev ++ (4 ∷ 3 ∷ 3 ∷ 5 ∷ 0 ∷ 5 ∷ 0 ∷ 5 ∷ 1 ∷ 7 ∷ []))) 5 10
+    ∷ row (ev ++ (ev ++ (4 ∷ 2 ∷ 3 ∷ 5 ∷ 0 ∷ 5 ∷ 0 ∷ 5 ∷ 1 ∷ 7 ∷ []))) 0 0
+    ∷ row (ev ++ (2 ∷ 1 ∷ 5 ∷ 0 ∷ 4 ∷ 2 ∷ 2 ∷ 5 ∷ 0 ∷ 6 ∷ 0 ∷ 0 ∷ 7 ∷ [])) 0 0
+    ∷ row (ev ++ (2 ∷ 1 ∷ 5 ∷ 0 ∷ 3 ∷ 1 ∷ 5 ∷ 0 ∷ 4 ∷ 2 ∷ 2 ∷ 6 ∷ 0 ∷ 0 ∷ 6 ∷ 1 ∷ 0 ∷ 7 ∷ [])) 0 0
     ∷ row (ev ++ (2 ∷ 1 ∷ 5 ∷ 1 ∷ 7 ∷ [])) 6 7
     ∷ row (ev ++ (2 ∷ 1 ∷ 6 ∷ 0 ∷ 0 ∷ 7 ∷ [])) 6 7
     ∷ row (1 ∷ 0x01 ∷ 0xCA ∷ 0x9A ∷ 0x3B ∷ []) 7 0
@@ -62,5 +76,5 @@ table =
     ∷ []
 
 vectors : map (λ (r : Row). judge limits (r .bytes)) table ≡ map (λ (r : Row). r .answer) table
-unfolding judge outcome run stepOf recordOf bodyOf closeOf unusedOf lowestUnused among
+unfolding judge outcome run nextStep starvedBy stepOf recordOf bodyOf closeOf unusedOf lowestUnused among
 vectors = refl

@@ -66,7 +66,7 @@ module _ (b : Book) where
 
 -- ---- x is read so far of the bytes of b
 
-module _ {b : Book} (l : Lawful limits b) {x : Book} (k : Kept x) (v : Along (memory b) x) where
+module _ {b : Book} (l : Lawful limits b) {x : Book} (v : Along (memory b) x) where
   pub few-events : length (x .events) ≤ length (b .events)
   few-events = omega (arith, v .someEvents, events-in b)
 
@@ -77,11 +77,11 @@ module _ {b : Book} (l : Lawful limits b) {x : Book} (k : Kept x) (v : Along (me
   front-events = v .tells .events
       ∙ tabulate-take (b .events) noEvent (λ e. getD (memory b .events) e noEvent) (length (x .events)) few-events (λ e h. event-in b e (omega (arith, few-events)))
 
-  front-kinds : x .kinds ≡ take (length (x .sizes)) (b .kinds)
+  pub front-kinds : x .kinds ≡ take (length (x .sizes)) (b .kinds)
   front-kinds = v .tells .kinds
       ∙ tabulate-take (b .kinds) 0 (λ g. getD (memory b .kinds) g 0) (length (x .sizes)) (omega (arith, few-gates, l .sameKinds)) (λ g h. kind-in b g)
 
-  front-leasts : x .leasts ≡ take (length (x .sizes)) (b .leasts)
+  pub front-leasts : x .leasts ≡ take (length (x .sizes)) (b .leasts)
   front-leasts = v .tells .leasts
       ∙ tabulate-take (b .leasts) 0 (λ g. toldLeast (getD (memory b .kinds) g 0) (getD (memory b .leasts) g 0)) (length (x .sizes)) (omega (arith, few-gates, l .sameLeasts))
       (λ g h. rw (kind-in b g, least-in b g) (told-least (getD (b .kinds) g 0) (getD (b .leasts) g 0) (l .plain g (omega (arith, few-gates)))))
@@ -94,8 +94,11 @@ module _ {b : Book} (l : Lawful limits b) {x : Book} (k : Kept x) (v : Along (me
   pub front-sum : (g : ℕ) → g ≤ length (x .sizes) → sum (take g (x .sizes)) ≡ sum (take g (b .sizes))
   front-sum g h = ap (λ (ns : List ℕ). sum (take g ns)) front-sizes ∙ ap sum (take-take g (length (x .sizes)) (b .sizes) h)
 
+  pub front-inputs : length (x .inputs) ≤ length (b .inputs) → x .inputs ≡ take (length (x .inputs)) (b .inputs)
+  front-inputs few = v .tells .inputs ∙ tabulate-take (b .inputs) 0 (λ i. getD (memory b .inputs) i 0) (length (x .inputs)) few (λ i h. input-in b i)
+
   -- once all events and gates are there, and no input is missing, x tells what b does
-  module _ (allEvents : length (b .events) ≤ length (x .events)) (allGates : length (b .sizes) ≤ length (x .sizes)) (none : x .left ≡ 0) where
+  module _ (k : Kept x) (allEvents : length (b .events) ≤ length (x .events)) (allGates : length (b .sizes) ≤ length (x .sizes)) (none : x .left ≡ 0) where
     whole-sizes : x .sizes ≡ b .sizes
     whole-sizes = front-sizes ∙ take-all (length (x .sizes)) (b .sizes) allGates
 
@@ -108,7 +111,5 @@ module _ {b : Book} (l : Lawful limits b) {x : Book} (k : Kept x) (v : Along (me
       kinds = front-kinds ∙ take-all (length (x .sizes)) (b .kinds) (omega (arith, allGates, l .sameKinds));
       leasts = front-leasts ∙ take-all (length (x .sizes)) (b .leasts) (omega (arith, allGates, l .sameLeasts));
       sizes = whole-sizes;
-      inputs = v .tells .inputs
-          ∙ tabulate-take (b .inputs) 0 (λ i. getD (memory b .inputs) i 0) (length (x .inputs)) (omega (arith, all-inputs)) (λ i h. input-in b i)
-          ∙ take-all (length (x .inputs)) (b .inputs) (omega (arith, all-inputs));
+      inputs = front-inputs (omega (arith, all-inputs)) ∙ take-all (length (x .inputs)) (b .inputs) (omega (arith, all-inputs));
     }

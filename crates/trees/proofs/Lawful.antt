@@ -22,6 +22,7 @@ use Rattle.records.specs.declared.uses.Found.{Found}
 use Rattle.records.specs.declared.uses.Found.the-variants.{At, Nothing}
 use Rattle.rules.proofs.Cases.{if-elim, either}
 use Rattle.records.proofs.Sums.{sum-take, sum-rises}
+use Rattle.records.proofs.Starving.{distinct-few}
 use Rattle.records.proofs.Runs.{Closed, accepted-keeps}
 
 -- ---- no item is unused
@@ -69,6 +70,8 @@ pub lawful-closed : {bytes : List ℕ} {P : Book → Type 0} {b : Book} → Clos
 lawful-closed {b = b} v =
     let k = v .kept in
     let all : sum (b .sizes) ≡ length (b .inputs) = omega (arith, k .wanted, v .close .none) in
+    let upto : (g : ℕ) → g < length (b .sizes) → sum (take g (b .sizes)) + getD (b .sizes) g 0 ≤ length (b .inputs) = λ g h.
+    omega (arith, all, sum-take (b .sizes) g h, sum-rises (b .sizes) (g + 1) (length (b .sizes)) (omega arith), ap sum (take-all (length (b .sizes)) (b .sizes) (omega arith))) in
     let used = nothing-unused (length (b .events)) (b .sizes) (b .places) (b .inputs) (v .used) in
     record {
       someEvent = v .close .someEvent;
@@ -82,17 +85,20 @@ lawful-closed {b = b} v =
       chances = k .chances;
       kinds = λ g h. k .kinds g (omega (arith, k .sameKinds));
       sizes = k .sizes;
-      leasts = λ g h q. right-k _ _ _ (k .right g h) q;
+      leasts = λ g h q. right-k _ _ _ (k .right g h (upto g h)) q;
       plain = k .plain;
       inputs = λ g h i j.
-          k .fits g h i j
-          (omega (arith, all, sum-take (b .sizes) g h, sum-rises (b .sizes) (g + 1) (length (b .sizes)) (omega arith), ap sum (take-all (length (b .sizes)) (b .sizes) (omega arith))));
+          k .fits g h i j (omega (arith, upto g h));
       eventsUsed = λ e h. rw zero-add at (used-each (length (b .events)) 0 0 (b .inputs) (used .0) e (omega arith) (omega arith));
       gatesUsed = λ g h. used-each (length (b .sizes) - 1) 0 gatesFrom (b .inputs) (used .1) g (omega arith) (omega arith);
     }
 
 pub lawful : (bytes : List ℕ) (b : Book) → outcome limits bytes ≡ accept b → Lawful limits b
 lawful bytes b e = lawful-closed (accepted-keeps bytes (λ _. Unit {0}) (λ b c next k p on. tt) (λ b kind least n next k p on. tt) (λ b i next k p on. tt) b tt e)
+
+-- so k is at most the number of inputs
+pub least-few : {b : Book} → Lawful limits b → (g : ℕ) → g < length (b .sizes) → getD (b .kinds) g 0 ≡ 4 → getD (b .leasts) g 0 ≤ getD (b .sizes) g 0
+least-few {b} l g h q = omega (arith, l .leasts g h q .1, distinct-few (b .sizes) (b .inputs) g)
 
 -- ---- as the paper has it
 

@@ -12,16 +12,16 @@ use borrow.Author.Tests.{lt-ltb, le-ltb, ne-eqb, ltb-true, ltb-false}
 use Rattle.paper.specs.Limits.{limits}
 use Rattle.rules.specs.Format.{byte, lengthOf, bodyOf, recordOf}
 use Rattle.rules.specs.Rules.{admitOf, stepOf}
-use Rattle.records.specs.Judge.{Book, start, counts, addEvent, addGate, addInput, run, outcome, judge}
+use Rattle.records.specs.Judge.{Book, start, counts, addEvent, addGate, addInput, thresholdStep, nextStep, run, outcome, judge}
 use Rattle.rules.specs.declared.format.Record.{Record}
 use Rattle.rules.specs.declared.format.Record.the-variants.{Missing, Unknown, Short, Event, Gate, EventInput, GateInput, End}
 use Rattle.rules.specs.declared.judge.State.{State}
 use Rattle.rules.specs.declared.judge.Step.{Step}
 use Rattle.rules.specs.declared.judge.Step.the-variants.{AddEvent, AddGate, AddInput, Close, Refused}
 use Rattle.rules.proofs.Cases.{either, front, known, length-small}
-use Rattle.rules.proofs.Steps.{Sound, sound-step}
+use Rattle.rules.proofs.Steps.{Sound}
 use Rattle.records.proofs.Keeping.{Kept, kept-start, kept-event, kept-gate, kept-input, kept-near}
-use Rattle.records.proofs.Runs.{run-event, run-gate, run-input, run-close, run-refused}
+use Rattle.records.proofs.Runs.{run-event, run-gate, run-input, run-close, run-refused, sound-next, next-fed}
 
 -- five bytes decide what record it is
 record-agree : (l m : List ℕ) → 5 ≤ length l → 5 ≤ length m → ((i : ℕ) → i < 5 → getD l i 0 ≡ getD m i 0) → recordOf l ≡ recordOf m
@@ -64,19 +64,21 @@ module _ (bytes : List ℕ) (n : ℕ) (long : n ≤ length bytes) (past : 15109 
   pre-length : length pre ≡ n
   pre-length = length-take-le n bytes long
 
-  same-step : (b : Book) → Kept b → stepOf limits pre (counts b) ≡ stepOf limits bytes (counts b)
-  unfolding stepOf
+  same-step : (b : Book) → Kept b → nextStep limits pre b ≡ nextStep limits bytes b
+  unfolding nextStep stepOf
   same-step b f =
       let at : b .at ≤ 15104 = kept-near f in
       let agree : recordOf (drop (b .at) pre) ≡ recordOf (drop (b .at) bytes) =
       record-agree (drop (b .at) pre) (drop (b .at) bytes) (omega (arith, length-drop (b .at) pre, pre-length)) (omega (arith, length-drop (b .at) bytes))
       (λ i h. getD-drop (b .at) pre i 0 ∙ getD-take n bytes (b .at + i) 0 (omega arith) ∙ sym (getD-drop (b .at) bytes i 0)) in
+      let step : admitOf limits (length pre) (counts b) (recordOf (drop (b .at) pre)) ≡ admitOf limits (length bytes) (counts b) (recordOf (drop (b .at) bytes)) =
       rw (agree, pre-length)
-      (admit-agree n (length bytes) (counts b) (recordOf (drop (b .at) bytes)) (not-missing (drop (b .at) bytes) (omega (arith, length-drop (b .at) bytes))) (omega arith) (omega arith))
+      (admit-agree n (length bytes) (counts b) (recordOf (drop (b .at) bytes)) (not-missing (drop (b .at) bytes) (omega (arith, length-drop (b .at) bytes))) (omega arith) (omega arith)) in
+      ap (thresholdStep b) step
 
   lock-step : (k m : ℕ) (b : Book) → Kept b → length bytes - b .at ≤ suc k → n - b .at ≤ suc m
       → ((x : Book) → Kept x → length bytes - x .at ≤ k → n - x .at ≤ m → run limits (suc k) bytes x ≡ run limits (suc m) pre x)
-      → (x : Step) → stepOf limits bytes (counts b) ≡ x → Sound (length bytes) (counts b) (recordOf (drop (b .at) bytes)) x
+      → (x : Step) → nextStep limits bytes b ≡ x → Sound (length bytes) (counts b) (recordOf (drop (b .at) bytes)) x
       → run limits (suc (suc k)) bytes b ≡ run limits (suc (suc m)) pre b
   lock-step k m b f h g on (AddEvent c next) q s =
       run-event (suc k) bytes b c next q ∙ on (addEvent b c next) (kept-event f s) (omega arith) (omega arith) ∙ sym (run-event (suc m) pre b c next (same-step b f ∙ q))
@@ -84,7 +86,7 @@ module _ (bytes : List ℕ) (n : ℕ) (long : n ≤ length bytes) (past : 15109 
       run-gate (suc k) bytes b kind j z next q ∙ on (addGate b kind j z next) (kept-gate f (drop (b .at) bytes) refl s) (omega arith) (omega arith)
       ∙ sym (run-gate (suc m) pre b kind j z next (same-step b f ∙ q))
   lock-step k m b f h g on (AddInput i next) q s =
-      run-input (suc k) bytes b i next q ∙ on (addInput b i next) (kept-input f s) (omega arith) (omega arith) ∙ sym (run-input (suc m) pre b i next (same-step b f ∙ q))
+      run-input (suc k) bytes b i next q ∙ on (addInput b i next) (kept-input f s (next-fed bytes b q)) (omega arith) (omega arith) ∙ sym (run-input (suc m) pre b i next (same-step b f ∙ q))
   lock-step k m b f h g on Close q s = run-close (suc k) bytes b q ∙ sym (run-close (suc m) pre b (same-step b f ∙ q))
   lock-step k m b f h g on (Refused a) q s = run-refused (suc k) bytes b a q ∙ sym (run-refused (suc m) pre b a (same-step b f ∙ q))
 
@@ -92,7 +94,7 @@ module _ (bytes : List ℕ) (n : ℕ) (long : n ≤ length bytes) (past : 15109 
   lock zero m b f h g = absurd (omega (arith, kept-near f))
   lock (suc k) zero b f h g = absurd (omega (arith, kept-near f))
   lock (suc k) (suc m) b f h g =
-      lock-step k m b f h g (λ x. lock k m x) (stepOf limits bytes (counts b)) refl (sound-step bytes (counts b) (omega (arith, kept-near f)))
+      lock-step k m b f h g (λ x. lock k m x) (nextStep limits bytes b) refl (sound-next bytes b (omega (arith, kept-near f)))
 
   long-prefix : outcome limits bytes ≡ outcome limits (take n bytes)
   unfolding outcome

@@ -11,8 +11,7 @@ use lib.Dec.{ltb}
 use borrow.Author.Tests.{ltb-true, ltb-false}
 use Rattle.paper.specs.Limits.{limits}
 use Rattle.rules.specs.Format.{recordOf}
-use Rattle.rules.specs.Rules.{stepOf}
-use Rattle.records.specs.Judge.{Book, start, counts, addEvent, addGate, addInput, Outcome, accept, refuse, unusedBy, closeOf, run, outcome}
+use Rattle.records.specs.Judge.{Book, start, counts, addEvent, addGate, addInput, nextStep, Outcome, accept, refuse, unusedBy, closeOf, run, outcome}
 use Rattle.records.specs.Memory.{memory, inMemory}
 use Rattle.judging.specs.Bytes.{bytesOf, told}
 use Rattle.writing.specs.Writes.{Wrote, wrote, writeOf}
@@ -26,8 +25,8 @@ use Rattle.rules.specs.declared.judge.Step.the-variants.{AddEvent, AddGate, Add
 use Rattle.records.specs.declared.uses.Found.{Found}
 use Rattle.records.specs.declared.uses.Found.the-variants.{At, Nothing}
 use Rattle.rules.proofs.Cases.{either}
-use Rattle.rules.proofs.Steps.{Sound, sound-step}
-use Rattle.records.proofs.Runs.{run-event, run-gate, run-input, run-close, run-refused}
+use Rattle.rules.proofs.Steps.{Sound}
+use Rattle.records.proofs.Runs.{run-event, run-gate, run-input, run-close, run-refused, sound-next}
 use Rattle.trees.proofs.Lawful.{lawful}
 use Rattle.trees.proofs.Longest.{longest}
 use Rattle.trees.proofs.Prefix.{first-bytes-decide}
@@ -66,7 +65,7 @@ module _ (bytes : List ℕ) (o : Outcome) where
       go Nothing h = let x : accept b ≡ refuse a = sym (rw (h, closeOf)) ∙ e ∙ q in let z : _≡_ {A = ℕ} 0 1 = cc in omega arith
 
   honest-step : (turns : ℕ) (b : Book) → ((x : Book) → x .at ≤ length bytes → run limits turns bytes x ≡ o → Honest)
-      → run limits (suc turns) bytes b ≡ o → (x : Step) → stepOf limits bytes (counts b) ≡ x
+      → run limits (suc turns) bytes b ≡ o → (x : Step) → nextStep limits bytes b ≡ x
       → Sound (length bytes) (counts b) (recordOf (drop (b .at) bytes)) x → Honest
   honest-step turns b on e (AddEvent c next) q s = on (addEvent b c next) (s .inside) (sym (run-event turns bytes b c next q) ∙ e)
   honest-step turns b on e (AddGate kind k n next) q s = on (addGate b kind k n next) (s .inside) (sym (run-gate turns bytes b kind k n next q) ∙ e)
@@ -77,7 +76,7 @@ module _ (bytes : List ℕ) (o : Outcome) where
   honest : (turns : ℕ) (b : Book) → b .at ≤ length bytes → run limits turns bytes b ≡ o → Honest
   unfolding run
   honest zero b h e = λ a q d. let x : refuse (Cut (length bytes)) ≡ refuse Done = e ∙ q ∙ ap refuse d in let z : _≡_ {A = ℕ} 0 1 = cc in omega arith
-  honest (suc turns) b h e = honest-step turns b (honest turns) e (stepOf limits bytes (counts b)) refl (sound-step bytes (counts b) h)
+  honest (suc turns) b h e = honest-step turns b (honest turns) e (nextStep limits bytes b) refl (sound-next bytes b h)
 
 -- a done reading: the bytes are accepted, the tree in memory is theirs, and it is lawful
 pub record Good (bytes : List ℕ) (t : Tree) : Type 0 where

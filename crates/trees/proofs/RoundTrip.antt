@@ -10,8 +10,7 @@ use borrow.Author.Tests.{lt-ltb}
 use Rattle.paper.specs.Limits.{limits}
 use Rattle.paper.specs.Lists.{sum}
 use Rattle.rules.specs.Format.{recordOf, widthOf, encode}
-use Rattle.rules.specs.Rules.{stepOf}
-use Rattle.records.specs.Judge.{Book, start, counts, _▷_, addEvent, addGate, addInput, accept, refuse, run, outcome}
+use Rattle.records.specs.Judge.{Book, start, counts, _▷_, addEvent, addGate, addInput, nextStep, accept, refuse, run, outcome}
 use Rattle.records.specs.Memory.{pad, noEvent, memory}
 use Rattle.judging.specs.Bytes.{inputRecord, bytesOf}
 use Rattle.writing.specs.Writes.{writeOf, wrote}
@@ -23,9 +22,10 @@ use Rattle.rules.specs.declared.format.Record.the-variants.{Event, Gate, End}
 use Rattle.rules.specs.declared.judge.Step.{Step}
 use Rattle.rules.specs.declared.judge.Step.the-variants.{AddEvent, AddGate, AddInput, Close, Refused}
 use Rattle.records.proofs.Pad.{length-▷, pad-getD}
-use Rattle.rules.proofs.Steps.{Sound, sound-step}
+use Rattle.rules.proofs.Steps.{Sound}
 use Rattle.records.proofs.Keeping.{Kept, kept-start, kept-event, kept-gate, kept-input}
-use Rattle.records.proofs.Runs.{run-event, run-gate, run-input, run-close, run-refused, close-is}
+use Rattle.records.proofs.Runs.{run-event, run-gate, run-input, run-close, run-refused, sound-next, next-fed, close-is}
+use Rattle.records.proofs.Sums.{some-sizes}
 use Rattle.judging.proofs.Rest.{eventRecord, gateRecordAt, inputRecordAt, restAt, rest-event, rest-input, rest-gate, rest-end}
 use Rattle.judging.proofs.Following.{follow-start}
 use Rattle.writing.proofs.Writing.{writes-done}
@@ -55,10 +55,6 @@ record Later (b b′ : Book) : Type 0 where
 no-sizes : (ns : List ℕ) → length ns ≡ 0 → sum ns ≡ 0
 no-sizes [] h = refl
 no-sizes (n ∷ ns) h = absurd (omega arith)
-
-pub some-sizes : (ns : List ℕ) → 0 < sum ns → 0 < length ns
-some-sizes [] h = absurd (omega arith)
-some-sizes (n ∷ ns) h = omega arith
 
 module _ (bytes : List ℕ) (good : (i : ℕ) → getD bytes i 0 < 256) (b′ : Book) where
   -- from b on, the bytes are what the tree of b′ writes from there
@@ -162,14 +158,14 @@ module _ (bytes : List ℕ) (good : (i : ℕ) → getD bytes i 0 < 256) (b′ : 
   -- one step, with the run behind it
   back-step : (turns : ℕ) (b : Book) → Kept b → b .at ≤ length bytes
       → ((x : Book) → Kept x → x .at ≤ length bytes → run limits turns bytes x ≡ accept b′ → Back x)
-      → run limits (suc turns) bytes b ≡ accept b′ → (x : Step) → stepOf limits bytes (counts b) ≡ x
+      → run limits (suc turns) bytes b ≡ accept b′ → (x : Step) → nextStep limits bytes b ≡ x
       → Sound (length bytes) (counts b) (recordOf (drop (b .at) bytes)) x → Back b
   back-step turns b f h on e (AddEvent c next) q s =
       back-event b c next f s (on (addEvent b c next) (kept-event f s) (s .inside) (sym (run-event turns bytes b c next q) ∙ e))
   back-step turns b f h on e (AddGate kind k n next) q s =
       back-gate b kind k n next f s (on (addGate b kind k n next) (kept-gate f (drop (b .at) bytes) refl s) (s .inside) (sym (run-gate turns bytes b kind k n next q) ∙ e))
   back-step turns b f h on e (AddInput i next) q s =
-      back-input b i next f s (on (addInput b i next) (kept-input f s) (s .inside) (sym (run-input turns bytes b i next q) ∙ e))
+      back-input b i next f s (on (addInput b i next) (kept-input f s (next-fed bytes b q)) (s .inside) (sym (run-input turns bytes b i next q) ∙ e))
   back-step turns b f h on e Close q s = back-end b (close-is b b′ (sym (run-close turns bytes b q) ∙ e)) s
   back-step turns b f h on e (Refused a) q s =
       let d : refuse a ≡ accept b′ = sym (run-refused turns bytes b a q) ∙ e in let z : _≡_ {A = ℕ} 0 1 = cc in absurd (omega arith)
@@ -177,7 +173,7 @@ module _ (bytes : List ℕ) (good : (i : ℕ) → getD bytes i 0 < 256) (b′ : 
   back : (turns : ℕ) (b : Book) → Kept b → b .at ≤ length bytes → run limits turns bytes b ≡ accept b′ → Back b
   unfolding run
   back zero b f h e = let z : _≡_ {A = ℕ} 0 1 = cc in absurd (omega arith)
-  back (suc turns) b f h e = back-step turns b f h (back turns) e (stepOf limits bytes (counts b)) refl (sound-step bytes (counts b) h)
+  back (suc turns) b f h e = back-step turns b f h (back turns) e (nextStep limits bytes b) refl (sound-next bytes b h)
 
   pub round-trip : outcome limits bytes ≡ accept b′ → bytesOf (memory b′) ≡ bytes
   unfolding outcome

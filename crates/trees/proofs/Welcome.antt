@@ -1,7 +1,7 @@
 -- When a record is not refused: what the rules ask of the state, of the record's numbers, and of nothing else.
 -- Assumes nothing.
-use mathlib.Core.Path.{_≡_, refl, sym, _∙_}
-use mathlib.Core.Bool.{Bool, true, false, false≢true}
+use mathlib.Core.Path.{_≡_, refl}
+use mathlib.Core.Bool.{Bool, false}
 use Prim.Native.Nat.{ℕ, _+_, _-_, _≤_, _<_}
 use native.Mathlib.Omega.{arith}
 use lib.Dec.{ltb, leb, eqb}
@@ -39,14 +39,13 @@ module _ (s : State) (after : ℕ) where
       (λ _. if-elim Welcome (ltb billion c) (λ e. absurd (omega (arith, ltb-true billion c e))) (λ _. tt)))
 
   pub gate-welcome : (kind k n : ℕ) → s .left ≡ 0 → s .gates < limits .gates → 1 ≤ n → n ≤ limits .inputs → s .inputs + n ≤ limits .inAll
-      → wrongK kind k n ≡ false → Welcome (gateStep limits s after kind k n)
-  gate-welcome kind k n none few some small room right =
+      → Welcome (gateStep limits s after kind k n)
+  gate-welcome kind k n none few some small room =
       if-elim Welcome (ltb 0 (s .left)) (λ e. absurd (omega (arith, ltb-true 0 (s .left) e)))
       (λ _. if-elim Welcome (leb (limits .gates) (s .gates)) (λ e. absurd (omega (arith, leb-true (limits .gates) (s .gates) e)))
       (λ _. if-elim Welcome (eqb n 0) (λ e. absurd (omega (arith, eqb-true n 0 e)))
       (λ _. if-elim Welcome (ltb (limits .inputs) n) (λ e. absurd (omega (arith, ltb-true (limits .inputs) n e)))
-      (λ _. if-elim Welcome (ltb (limits .inAll) (s .inputs + n)) (λ e. absurd (omega (arith, ltb-true (limits .inAll) (s .inputs + n) e)))
-      (λ _. if-elim Welcome (wrongK kind k n) (λ e. absurd (false≢true (sym right ∙ e))) (λ _. tt))))))
+      (λ _. if-elim Welcome (ltb (limits .inAll) (s .inputs + n)) (λ e. absurd (omega (arith, ltb-true (limits .inAll) (s .inputs + n) e))) (λ _. tt)))))
 
 module _ (s : State) (len : ℕ) where
   -- an input that fits the last gate
@@ -61,12 +60,12 @@ module _ (s : State) (len : ℕ) where
 
   -- a gate of one of the three kinds
   pub kind-welcome : (kind k n : ℕ) → (2 ≤ kind) × (kind ≤ 4) → s .left ≡ 0 → s .gates < limits .gates → 1 ≤ n → n ≤ limits .inputs
-      → s .inputs + n ≤ limits .inAll → (kind ≡ 4 → (1 ≤ k) × (k ≤ n)) → Welcome (admitOf limits len s (gateRecord kind k n))
-  kind-welcome kind k n (low, high) none few some small room right =
+      → s .inputs + n ≤ limits .inAll → Welcome (admitOf limits len s (gateRecord kind k n))
+  kind-welcome kind k n (low, high) none few some small room =
       let P : Record → Type 0 = λ r. Welcome (admitOf limits len s r) in
-      if-elim P (eqb kind 2) (λ _. gate-welcome s _ 2 0 n none few some small room (not-wrong 2 0 n (λ z. absurd (omega arith))))
-      (λ a. if-elim P (eqb kind 3) (λ _. gate-welcome s _ 3 0 n none few some small room (not-wrong 3 0 n (λ z. absurd (omega arith))))
-      (λ b. if-elim P (eqb kind 4) (λ e. gate-welcome s _ 4 k n none few some small room (not-wrong 4 k n (λ _. right (eqb-true kind 4 e))))
+      if-elim P (eqb kind 2) (λ _. gate-welcome s _ 2 0 n none few some small room)
+      (λ a. if-elim P (eqb kind 3) (λ _. gate-welcome s _ 3 0 n none few some small room)
+      (λ b. if-elim P (eqb kind 4) (λ _. gate-welcome s _ 4 k n none few some small room)
       (λ d. absurd (omega (arith, eqb-false kind 2 a, eqb-false kind 3 b, eqb-false kind 4 d)))))
 
   pub end-welcome : s .left ≡ 0 → len ≤ s .at + 1 → 0 < s .events → 0 < s .gates → Welcome (endStep len s (s .at + 1))

@@ -1,6 +1,7 @@
 -- Where the loop of `emit` stands: the room's front holds the tree's bytes up to the next record.
 -- Assumes nothing.
 use mathlib.Core.Path.{_≡_, refl, sym, ap, _∙_}
+use mathlib.Core.Bool.{false}
 use mathlib.Core.List.{List, [], _++_, append-assoc, append-nil}
 use Prim.Native.Nat.{ℕ, _+_, _-_, _≤_}
 use native.Mathlib.Omega.{arith}
@@ -9,7 +10,7 @@ use lib.Seq.{take-all, take-at, drop-at, drop-drop, take-add, take-length, lengt
 use Rattle.paper.specs.Limits.{limits}
 use Rattle.rules.specs.Format.{widthOf, encode}
 use Rattle.rules.specs.Rules.{admitOf, stepOf}
-use Rattle.records.specs.Judge.{counts, start, accept, refuse}
+use Rattle.records.specs.Judge.{Book, counts, start, addInput, starved, Outcome, accept, refuse}
 use Rattle.rules.specs.States.{pastEvent, pastGate, pastInput}
 use Rattle.judging.specs.Bytes.{bytesOf}
 use Rattle.judging.specs.Inner.{Own, Accepted}
@@ -21,7 +22,8 @@ use Rattle.rules.specs.declared.judge.Step.{Step}
 use Rattle.rules.specs.declared.judge.Step.the-variants.{AddEvent, AddGate, AddInput, Close, Refused}
 use Rattle.judging.proofs.Coding.{encode-width}
 use Rattle.judging.proofs.Rest.{nextRecord}
-use Rattle.records.proofs.Runs.{Running, running-start, running-sound, running-event, running-gate, running-input, running-refused}
+use Rattle.records.proofs.Runs.{Running, running-start, running-sound, running-event, running-gate, running-input, running-starved, running-refused}
+use Rattle.rules.proofs.Cases.{either}
 use Rattle.rules.proofs.Steps.{Sound}
 use Rattle.judging.proofs.Following.{Following, follow-start, follow-step, follow-event, follow-gate, follow-input, starts-with, read-back, room-for, end-length}
 
@@ -37,6 +39,10 @@ pub record Emitting (t : Tree) (old room : List ℕ) (s : State) : Type 0 where
 
 pub emit-start : (t : Tree) (room : List ℕ) → length (bytesOf t) ≤ length room → Emitting t room room (counts start)
 emit-start t room h = record { running = running-start (bytesOf t); following = follow-start t; written = refl; fits = h }
+
+-- what is accepted is not refused
+not-both : {o : Outcome} {a : Answer} {b : Book} → o ≡ refuse a → o ≡ accept b → ⊥
+not-both {o} {a} {b} p q = let d : refuse a ≡ accept b = sym p ∙ q in let z : _≡_ {A = ℕ} 0 1 = cc in omega arith
 
 module _ {t : Tree} {old room : List ℕ} {s : State} (v : Emitting t old room s) where
   pub emit-length : length room ≡ length old
@@ -88,10 +94,13 @@ module _ {t : Tree} {old room : List ℕ} {s : State} (v : Emitting t old room s
           let on = emit-sound q in
           record { running = running-gate (v .running) kind k n next (step q); following = follow-gate (v .following) e on; written = rw (on .place) emit-put; fits = v .fits }
 
-      pub emit-input : (i next : ℕ) → AddInput i next ≡ admitOf limits (s .at + widthOf r) s r → Emitting t old (lent room (s .at) ys) (pastInput s next)
-      emit-input i next q =
+      -- no gate of an accepted tree is starved
+      pub emit-input : Accepted t → (i next : ℕ) → AddInput i next ≡ admitOf limits (s .at + widthOf r) s r → Emitting t old (lent room (s .at) ys) (pastInput s next)
+      emit-input (b, p) i next q =
           let on = emit-sound q in
-          record { running = running-input (v .running) i next (step q); following = follow-input (v .following) e on; written = rw (on .place) emit-put; fits = v .fits }
+          let fed : starved (addInput (v .running .book) i next) ≡ false =
+          either (starved (addInput (v .running .book) i next)) (λ wrong. absurd (not-both (running-starved (v .running) i next (step q) wrong) p)) (λ right. right) in
+          record { running = running-input (v .running) i next (step q) fed; following = follow-input (v .following) e on; written = rw (on .place) emit-put; fits = v .fits }
 
       pub emit-done : Close ≡ admitOf limits (s .at + widthOf r) s r → lent room (s .at) ys ≡ bytesOf t ++ drop (length (bytesOf t)) old
       emit-done q =
@@ -100,6 +109,4 @@ module _ {t : Tree} {old room : List ℕ} {s : State} (v : Emitting t old room s
           emit-put ∙ rw (n, take-length)
 
       pub emit-never : Accepted t → (a : Answer) → Refused a ≡ admitOf limits (s .at + widthOf r) s r → ⊥
-      emit-never (b, p) a q =
-          let d : refuse a ≡ accept b = sym (running-refused (v .running) a (step q)) ∙ p in
-          let z : _≡_ {A = ℕ} 0 1 = cc in omega arith
+      emit-never (b, p) a q = not-both (running-refused (v .running) a (step q)) p

@@ -3,8 +3,8 @@
 use crate::cut_diagram::CutDiagram;
 use crate::judge::{read, refuse, Refusal};
 use crate::lent::{Lent, Sort, MOST_NUMBERS};
-use crate::robdd::{Full, Robdd};
-use crate::tree::Tree;
+use crate::robdd::{Counted, Full, Robdd};
+use crate::tree::{distinct, Tree};
 
 /// The lengths of what is lent to an analysis, in numbers.
 #[derive(Clone, Copy, Debug)]
@@ -44,11 +44,16 @@ pub struct Analysis {
 }
 
 pub fn analyse(bytes: &[u8], lengths: Lengths) -> Result<Analysis, Refusal> {
+    analyse_over(bytes, lengths, &|_, inputs| distinct(inputs))
+}
+
+/// Wrong programs count other inputs of an at-least gate than the distinct ones.
+pub fn analyse_over(bytes: &[u8], lengths: Lengths, counted: &Counted) -> Result<Analysis, Refusal> {
     let tree = read(bytes)?;
     if !lengths.keep_rules(&tree) {
         return refuse(9, 0);
     }
-    let Ok(robdd) = Robdd::build(&tree, lengths.node_table / 3) else { return refuse(10, 0) };
+    let Ok(robdd) = Robdd::build_over(&tree, lengths.node_table / 3, counted) else { return refuse(10, 0) };
     match CutDiagram::build(&robdd, lengths.cut_table / 3) {
         Ok(cuts) => Ok(Analysis { tree, robdd, cuts }),
         Err(Full) => refuse(11, 0),

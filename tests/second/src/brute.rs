@@ -59,7 +59,8 @@ pub fn functions(tree: &Tree) -> Functions {
     for (gate, inputs) in tree.gates.iter().zip(tree.inputs_by_gate()) {
         let mut steps: Vec<Function> = Vec::new();
         let mut operands = Vec::new();
-        for input in inputs {
+        // Request 3: the steps of an at-least gate run over its distinct inputs.
+        for input in if gate.kind == AT_LEAST { distinct(&inputs) } else { inputs } {
             operands.push(match input {
                 Input::Event(event) => {
                     steps.push(event_function(event, events));
@@ -130,17 +131,16 @@ pub fn exact_chance(f: &Function, chances: &[u32]) -> Big {
 pub fn fails(tree: &Tree, failed: &dyn Fn(u32) -> bool) -> bool {
     let mut values: Vec<bool> = Vec::new();
     for (gate, inputs) in tree.gates.iter().zip(tree.inputs_by_gate()) {
-        let failing = inputs
-            .iter()
-            .filter(|input| match **input {
-                Input::Event(event) => failed(event),
-                Input::Gate(number) => values[number as usize],
-            })
-            .count();
+        let fails = |input: &Input| match *input {
+            Input::Event(event) => failed(event),
+            Input::Gate(number) => values[number as usize],
+        };
+        // As a set: one that stands twice is one. Two gates are two, whatever they say.
+        let failing: HashSet<Input> = inputs.iter().copied().filter(fails).collect();
         values.push(match gate.kind {
-            AND => failing == inputs.len(),
-            OR => failing > 0,
-            _ => failing >= gate.k as usize,
+            AND => inputs.iter().all(fails),
+            OR => inputs.iter().any(fails),
+            _ => failing.len() >= gate.k as usize,
         });
     }
     *values.last().expect("a tree has a gate")

@@ -4,7 +4,7 @@ use crate::analysis::{analyse, Analysis, Lengths};
 use crate::compare_equations::{compare_texts, compare_trees};
 use crate::compare_lent::{compare_bracket, compare_list};
 use crate::compare_sizes::{compare_folders, compare_sizes};
-use crate::damage::{damaged, tree_in_memory};
+use crate::damage::damaged;
 use crate::diagrams;
 use crate::families;
 use crate::generator::{self, large_shape, longest_shape, middle_shape, small_shape};
@@ -14,7 +14,8 @@ use crate::library::*;
 use crate::random::Random;
 use crate::renumbering::renumbering;
 use crate::tally::{hex, Tally};
-use crate::tree::{Tree, MOST_GATES};
+use crate::tree::{distinct, Input, Tree, AT_LEAST, MOST_GATES};
+use crate::unlawful::tree_in_memory;
 
 /// Larger diagrams are cut off here: their inputs then ask for number 10.
 const MOST_NODES: usize = 6_000;
@@ -289,6 +290,7 @@ pub fn compare_analysis_in(
         tally.meet("analyses without a memo", lengths.memo == 0);
         tally.meet("with one quadruple", lengths.memo == 4);
         tally.meet("with 10,000 quadruples", lengths.memo >= 40_000);
+        meet_twins(&done.tree, tally);
     }
     let mut memory = Memory::dirty(lengths, work_lengths, random);
     tally.note(|| format!("{} lengths {lengths:?} work areas {work_lengths:?}", hex(bytes)));
@@ -324,6 +326,17 @@ pub fn compare_analysis_in(
             compare_uses(library, &done, &got, tables, random, tally);
         }
     }
+}
+
+/// Counts trees in which an at-least gate has an input twice, or an event beside the gate of its number.
+fn meet_twins(tree: &Tree, tally: &mut Tally) {
+    let at_least = tree.gates.iter().zip(tree.inputs_by_gate()).filter(|(gate, _)| gate.kind == AT_LEAST);
+    let counted: Vec<Vec<Input>> = at_least.map(|(_, inputs)| inputs).collect();
+    tally.meet("at-least gates with twins", counted.iter().any(|inputs| distinct(inputs).len() < inputs.len()));
+    let beside = |inputs: &Vec<Input>| {
+        inputs.iter().any(|input| matches!(*input, Input::Event(event) if inputs.contains(&Input::Gate(event))))
+    };
+    tally.meet("with event and gate of one number", counted.iter().any(beside));
 }
 
 /// Both tables, the gate list and the roots, up to a renumbering of nodes.

@@ -3,7 +3,6 @@
 use crate::analysis::{analyse, Lengths};
 use crate::brute;
 use crate::compare::{compare_rooms, dirty, no_fault};
-use crate::damage::tree_in_memory;
 use crate::equations::*;
 use crate::generator;
 use crate::judge::{read, write};
@@ -14,6 +13,7 @@ use crate::sets::Set;
 use crate::tally::Tally;
 use crate::texts;
 use crate::tree::*;
+use crate::unlawful::tree_in_memory;
 
 /// Larger diagrams, and more cuts, aren't compared after a round trip.
 const MOST_NODES: usize = 3_000;

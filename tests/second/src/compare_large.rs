@@ -1,4 +1,4 @@
-//! The large inputs of every run: trees of known numbers at exact capacities, the longest bytes, the limits of lengths.
+//! The fixed inputs of every run: request 3 case by case, trees of known numbers at exact capacities, the longest bytes, the limits of lengths.
 
 use crate::analysis::{analyse, Lengths};
 use crate::city::{self, city};
@@ -16,10 +16,12 @@ use crate::random::Random;
 use crate::tally::Tally;
 use crate::texts::{chain, upside_down, wide};
 use crate::tree::*;
+use crate::twins::{Due, CASES, TEXTS};
 
 pub fn compare_large(library: &dyn Library, tally: &mut Tally) {
     let random = &mut Random::new(0);
     tally.detailed = true;
+    compare_twins(library, random, tally);
     compare_named(library, "European 1", &european_1(), random, tally);
     compare_named(library, "a small city", &city(city::SMALL), random, tally);
     compare_named(library, "a middle city", &city(city::MIDDLE), random, tally);
@@ -32,6 +34,28 @@ pub fn compare_large(library: &dyn Library, tally: &mut Tally) {
     compare_long_texts(library, random, tally);
     compare_largest_diagrams(library, random, tally);
     tally.name = None;
+}
+
+/// Request 3, byte by byte: the second program's answers are held to those that are written out, the library's to the second program's.
+pub fn compare_twins(library: &dyn Library, random: &mut Random, tally: &mut Tally) {
+    for case in CASES {
+        tally.name = Some(case.what);
+        let bytes = case.bytes();
+        let done = analyse(&bytes, Lengths::AMPLE);
+        let refusal = done.as_ref().err().map(|refusal| Due::Refused(refusal.number, refusal.place));
+        let nodes = done.as_ref().map_or(0, |done| done.robdd.nodes.count());
+        let due = matches!(case.due, Due::Done(due, _) if due == nodes && refusal.is_none());
+        tally.holds("as it is written out", due || refusal == Some(case.due));
+        compare_reading(library, &bytes, random, tally);
+        let cuts = done.as_ref().map_or(0, |done| done.cuts.nodes.count());
+        let lengths = Lengths { memo: 4, ..Lengths::of_capacities(nodes, cuts) };
+        compare_analysis_in(library, &bytes, lengths, library.smallest_areas(nodes, cuts), random, tally);
+    }
+    tally.name = Some("names that stand twice");
+    for (text, number) in TEXTS {
+        let import = compare_import(library, text.as_bytes(), random, tally);
+        tally.same("a text with a name twice", *number, import.number);
+    }
 }
 
 /// Done with exactly the nodes that are needed, 10 and 11 with one less; then the listing, from room to room.

@@ -4,6 +4,7 @@ use crate::generator::{longest_shape, shape, small_shape, tree};
 use crate::judge::{write, Refusal};
 use crate::random::Random;
 use crate::tree::*;
+use crate::unlawful::raw_bytes;
 
 pub struct Damaged {
     pub bytes: Vec<u8>,
@@ -18,7 +19,7 @@ fn records(tree: &Tree) -> Records {
     let mut records = Vec::new();
     let mut place = 0;
     while place < bytes.len() {
-        let length = [1, 5, 2, 2, 3, 2, 3, 1][bytes[place] as usize];
+        let length = LENGTHS[bytes[place] as usize];
         records.push(bytes[place..place + length].to_vec());
         place += length;
     }
@@ -33,6 +34,8 @@ fn of_kinds(records: &Records, kinds: &[u8]) -> Vec<usize> {
     (0..records.len()).filter(|&index| kinds.contains(&records[index][0])).collect()
 }
 
+/// The bytes of a record by its kind; there is no kind 0.
+const LENGTHS: [usize; 8] = [1, 5, 2, 2, 3, 2, 3, 1];
 const GATES: [u8; 3] = [2, 3, 4];
 const INPUTS: [u8; 2] = [5, 6];
 
@@ -40,8 +43,16 @@ fn place_of_n(record: &[u8]) -> usize {
     record.len() - 1
 }
 
-/// Bytes that are refused with the number, 1 to 8.
+/// Bytes that are refused with the number, 1 to 8. A wrong k of the gate at hand often stands before one of 1, 2, 3 and 6, and is not yet judged.
 pub fn damaged(random: &mut Random, number: u32) -> Damaged {
+    let damaged = damaged_once(random, number);
+    if [1, 2, 3, 6].contains(&number) && random.once_in(3) {
+        return with_wrong_k(random, damaged);
+    }
+    damaged
+}
+
+fn damaged_once(random: &mut Random, number: u32) -> Damaged {
     let size = match random.below(40) {
         0 => longest_shape(),
         1 => shape(random.between(100, 256), random.between(50, 512), 64),
@@ -56,7 +67,7 @@ pub fn damaged(random: &mut Random, number: u32) -> Damaged {
         2 => unknown_kind(random, &mut all),
         3 => return out_of_place(random, all),
         4 => return count(random, &whole, all),
-        5 => wrong_k(random, &mut all),
+        5 => return wrong_k(random, all),
         6 => wrong_input(random, &whole, &mut all),
         7 => wrong_chance(random, &mut all),
         8 => return unused(random, &whole),
@@ -67,13 +78,18 @@ pub fn damaged(random: &mut Random, number: u32) -> Damaged {
 
 fn finish(random: &mut Random, number: u32, all: Records, faulty: usize) -> Damaged {
     let place = offset(&all, faulty);
-    let mut bytes = all[..=faulty].concat();
+    decided(random, Refusal { number, place }, all, faulty)
+}
+
+/// Anything behind the record that decides.
+fn decided(random: &mut Random, expected: Refusal, all: Records, deciding: usize) -> Damaged {
+    let mut bytes = all[..=deciding].concat();
     if random.once_in(2) {
-        bytes.extend(all[faulty + 1..].concat());
+        bytes.extend(all[deciding + 1..].concat());
     } else {
         bytes.extend((0..random.below(20)).map(|_| random.byte()));
     }
-    Damaged { bytes, expected: Refusal { number, place } }
+    Damaged { bytes, expected }
 }
 
 fn cut_short(random: &mut Random, all: Records) -> Damaged {
@@ -211,12 +227,45 @@ fn over_total(all: &Records) -> Option<usize> {
     })
 }
 
-fn wrong_k(random: &mut Random, all: &mut Records) -> usize {
-    let index = random.of(&of_kinds(all, &GATES));
-    let n = *all[index].last().expect("a record has bytes");
-    let k = random.of(&[0, n + 1, n + 1, 200, 255]);
-    all[index] = vec![4, k, n];
-    index
+/// A k of 0 or above the number of the gate's distinct inputs, of which some are made twins: decided by the last of them, at the gate's place.
+fn wrong_k(random: &mut Random, mut all: Records) -> Damaged {
+    let index = random.of(&of_kinds(&all, &GATES));
+    let n = all[index][place_of_n(&all[index])] as usize;
+    let (first, last) = (index + 1, index + n);
+    if random.once_in(2) {
+        for input in first..=last {
+            all[input] = all[random.between(first, last)].clone();
+        }
+    }
+    let most = distinct(&all[first..=last]).len();
+    let k = random.of(&[0, most + 1, most + 1, n.max(most + 1), n + 1, 255]);
+    all[index] = vec![4, k as u8, n as u8];
+    let expected = Refusal { number: 5, place: offset(&all, index) };
+    decided(random, expected, all, last)
+}
+
+/// The same refusal where the fault stands among the inputs of a gate: that gate's k is wrong too, and would be judged after them.
+fn with_wrong_k(random: &mut Random, Damaged { mut bytes, mut expected }: Damaged) -> Damaged {
+    let mut place = 0;
+    let mut open = None;
+    while place < expected.place as usize {
+        let length = LENGTHS[bytes[place] as usize];
+        open = match bytes[place] {
+            2..=4 => Some((place, bytes[place + length - 1])),
+            5 | 6 => open.map(|(gate, missing)| (gate, missing - 1)),
+            _ => open,
+        };
+        place += length;
+    }
+    if let Some((gate, 1..)) = open {
+        if bytes[gate] != 4 {
+            bytes[gate] = 4;
+            bytes.insert(gate + 1, 0);
+            expected.place += 1;
+        }
+        bytes[gate + 1] = random.of(&[0, bytes[gate + 2] + 1, 255]);
+    }
+    Damaged { bytes, expected }
 }
 
 fn wrong_input(random: &mut Random, whole: &Tree, all: &mut Records) -> usize {
@@ -264,6 +313,11 @@ fn unused(random: &mut Random, whole: &Tree) -> Damaged {
             *input = other;
         }
     }
+    let inputs = tree.inputs_by_gate();
+    for (gate, inputs) in tree.gates.iter_mut().zip(inputs) {
+        // Fewer may be distinct now.
+        gate.k = gate.k.min(distinct(&inputs).len() as u32);
+    }
     let bytes = raw_bytes(&tree);
     let place = if lost < FIRST_GATE_INPUT {
         5 * lost as u64
@@ -273,86 +327,4 @@ fn unused(random: &mut Random, whole: &Tree) -> Damaged {
         raw_bytes(&shorter).len() as u64 - 1
     };
     Damaged { bytes, expected: Refusal { number: 8, place } }
-}
-
-/// The records of a tree as bytes without any judgement; fields are cut to their bytes.
-pub fn raw_bytes(tree: &Tree) -> Vec<u8> {
-    let mut bytes = Vec::new();
-    for &chance in &tree.chances {
-        bytes.push(1);
-        bytes.extend(chance.to_le_bytes());
-    }
-    for (gate, inputs) in tree.gates.iter().zip(tree.inputs_by_gate()) {
-        bytes.push(gate.kind as u8);
-        if gate.kind == AT_LEAST {
-            bytes.push(gate.k as u8);
-        }
-        bytes.push(gate.n as u8);
-        for input in inputs {
-            match input {
-                Input::Event(event) => bytes.extend([5, event as u8]),
-                Input::Gate(gate) => {
-                    bytes.push(6);
-                    bytes.extend((gate as u16).to_le_bytes());
-                }
-            }
-        }
-    }
-    bytes.push(7);
-    bytes
-}
-
-/// A tree in memory without a plan: small numbers that often mean something.
-fn tree_without_plan(random: &mut Random) -> Tree {
-    let (events, gates) = (random.between(1, 4), random.between(1, 4));
-    let chances = (0..events).map(|_| random.of(&[0, 1, D, D + 1])).collect();
-    let gate = |random: &mut Random| Gate {
-        kind: random.between(1, 5) as u32,
-        k: random.below(4) as u32,
-        n: random.below(4) as u32,
-    };
-    let all: Vec<Gate> = (0..gates).map(|_| gate(random)).collect();
-    let input = |random: &mut Random| match random.once_in(3) {
-        true => FIRST_GATE_INPUT + random.below(gates) as u32,
-        false => random.below(events + 1) as u32,
-    };
-    let inputs = (0..random.below(16)).map(|_| input(random)).collect();
-    let count = |random: &mut Random, held: usize| if random.once_in(6) { random.below(6) as u64 } else { held as u64 };
-    let (event_count, gate_count) = (count(random, events), count(random, gates));
-    Tree { event_count, gate_count, chances, gates: all, inputs }
-}
-
-/// A tree in memory that may break any rule, also such as no bytes can; its numbers are as wide as the records'.
-pub fn tree_in_memory(random: &mut Random) -> Tree {
-    if random.once_in(4) {
-        return tree_without_plan(random);
-    }
-    let size = if random.once_in(30) { longest_shape() } else { small_shape(random) };
-    let mut tree = tree(random, size);
-    if random.once_in(4) {
-        return tree;
-    }
-    let event = random.below(tree.chances.len());
-    let gate = random.below(tree.gates.len());
-    let input = random.below(tree.inputs.len());
-    let large = random.next() as u32;
-    match random.below(12) {
-        0 => tree.event_count += random.of(&[1, 2, 300, 1 << 32, u64::MAX >> 1]),
-        1 => tree.gate_count += random.of(&[1, 2, 600, 1 << 32, u64::MAX >> 1]),
-        2 => tree.event_count = random.below(tree.chances.len() + 1) as u64,
-        3 => tree.gate_count = random.below(tree.gates.len() + 1) as u64,
-        4 => tree.chances[event] = random.of(&[D + 1, u32::MAX, large]),
-        5 => tree.gates[gate].kind = random.of(&[0, 1, 5, 6, 7, 255, large % 256]),
-        6 => tree.gates[gate].n = random.of(&[0, 1, 2, 64, 65, 128, 255, large % 256]),
-        7 => {
-            let k = random.of(&[0, 1, 64, 65, 128, 255, large % 256]);
-            tree.gates[gate].k = k;
-            tree.gates[gate].kind = random.of(&[AND, OR, AT_LEAST]);
-        }
-        8 => tree.inputs[input] = random.of(&[0, 255, 256, 256 + gate as u32, 511, 768, 0xFFFF, large % 65_536]),
-        9 => tree.inputs[input] = random.below(600) as u32,
-        10 => tree.chances.truncate(event),
-        _ => tree.inputs.truncate(input),
-    }
-    tree
 }

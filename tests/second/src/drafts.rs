@@ -151,7 +151,7 @@ impl Draft {
         }
         let left = self.fresh(random);
         let kind = random.of(&[AND, OR, AT_LEAST]);
-        let k = random.between(1, inputs.len()).to_string();
+        let k = random.between(1, distinct(&inputs).len()).to_string();
         self.equations.push(Equation { left, kind, k, inputs });
         left
     }
@@ -191,11 +191,16 @@ impl Draft {
             }
             Fault::Gates => self.too_many(random, some),
             Fault::Threshold => {
+                let all: usize = self.equations.iter().map(|equation| equation.inputs.len()).sum();
                 let Equation { kind, k, inputs, .. } = &mut self.equations[some];
-                let above = (inputs.len() + 1).to_string();
+                // One of its names once more, where that keeps the limits.
+                if inputs.len() < MOST_INPUTS_OF_A_GATE && all < MOST_INPUTS && random.once_in(2) {
+                    inputs.insert(random.below(inputs.len() + 1), random.of(inputs));
+                }
+                let above = (distinct(inputs).len() + 1).to_string();
                 *kind = AT_LEAST;
-                let choices = ["0", &above, "256", "257", "4294967297", "18446744073709551617", "99999999999999999999"];
-                *k = random.of(&choices).to_string();
+                let choices = ["0", "256", "257", "4294967297", "18446744073709551617", "99999999999999999999"];
+                *k = if random.once_in(2) { above } else { random.of(&choices).to_string() };
             }
         }
     }

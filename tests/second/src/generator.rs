@@ -83,10 +83,20 @@ pub fn narrow_tree(random: &mut Random) -> Tree {
         inputs.insert(random.below(inputs.len() + 1), event);
         inputs.insert(random.below(inputs.len() + 1), below);
         let kind = random.of(&[AND, OR, AT_LEAST]);
-        let k = if kind == AT_LEAST { random.between(1, width) as u32 } else { 0 };
+        let k = threshold(random, kind, &inputs);
         tree.add_gate(kind, k, &inputs);
     }
     tree
+}
+
+/// A k that these inputs allow, often the most that they do: as many as are distinct.
+fn threshold(random: &mut Random, kind: u32, inputs: &[Input]) -> u32 {
+    let most = distinct(inputs).len();
+    match kind {
+        AT_LEAST if random.once_in(4) => most as u32,
+        AT_LEAST => random.between(1, most) as u32,
+        _ => 0,
+    }
 }
 
 /// The ors of so many pairs of events, and those that are joined by an and.
@@ -143,7 +153,8 @@ pub fn tree(random: &mut Random, shape: Shape) -> Tree {
             inputs.push(unused.remove(place));
         }
         while inputs.len() < widths[gate] {
-            inputs.push(again(random, &shape, gate));
+            let beside = twin(random, &shape, gate, &inputs).filter(|_| random.once_in(2));
+            inputs.push(beside.unwrap_or_else(|| again(random, &shape, gate)));
         }
         for place in (1..inputs.len()).rev() {
             inputs.swap(place, random.below(place + 1));
@@ -152,7 +163,7 @@ pub fn tree(random: &mut Random, shape: Shape) -> Tree {
             Kinds::All => random.of(&[AND, OR, AT_LEAST]),
             Kinds::OnlyAtLeast => AT_LEAST,
         };
-        let k = if kind == AT_LEAST { random.between(1, inputs.len()) as u32 } else { 0 };
+        let k = threshold(random, kind, &inputs);
         unused.push(Input::Gate(tree.add_gate(kind, k, &inputs)));
     }
     tree
@@ -195,6 +206,21 @@ fn widths(random: &mut Random, shape: &Shape, firsts: &[usize]) -> Vec<usize> {
         }
     }
     widths
+}
+
+/// One of the gate's inputs once more, or the event beside the gate of its number and the gate beside the event, where there is one.
+fn twin(random: &mut Random, shape: &Shape, gate: usize, inputs: &[Input]) -> Option<Input> {
+    if inputs.is_empty() {
+        return None;
+    }
+    let again = random.of(inputs);
+    let other = match again {
+        Input::Event(event) if (event as usize) < gate => Input::Gate(event),
+        Input::Gate(gate) if (gate as usize) < shape.events => Input::Event(gate),
+        _ => again,
+    };
+    let beside = if random.once_in(3) { other } else { again };
+    (!shape.only_gates_again || matches!(beside, Input::Gate(_))).then_some(beside)
 }
 
 /// A further use of an event or of an earlier gate.

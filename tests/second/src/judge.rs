@@ -36,7 +36,7 @@ fn body_length(kind: u32) -> Option<usize> {
 }
 
 /// The record at `place` and its length: 2 before 1.
-fn decode(bytes: &[u8], place: usize) -> Result<(Record, usize), Refusal> {
+pub fn decode(bytes: &[u8], place: usize) -> Result<(Record, usize), Refusal> {
     let kind = bytes[place] as u32;
     let Some(length) = body_length(kind) else { return refuse(2, place as u64) };
     let Some(body) = bytes.get(place + 1..place + 1 + length) else { return refuse(1, place as u64) };
@@ -63,7 +63,7 @@ pub struct Judge {
 }
 
 impl Judge {
-    /// Every record but the end: 3, then 4, then 5, 6 or 7.
+    /// Every record but the end: 3, then 4, then 6 or 7; after a gate's last input 5, for the gate.
     pub fn take(&mut self, record: Record, place: u64) -> Result<(), Refusal> {
         match record {
             Record::Event(chance) => {
@@ -91,12 +91,10 @@ impl Judge {
                 {
                     return refuse(4, place);
                 }
-                if kind == AT_LEAST && (k == 0 || k > n) {
-                    return refuse(5, place);
-                }
                 self.missing_inputs = n;
                 self.total_inputs = total;
-                let k = if kind == AT_LEAST { k as u32 } else { 0 };
+                // A larger k than 32 bits hold is above any count of inputs all the same.
+                let k = if kind == AT_LEAST { u32::try_from(k).unwrap_or(u32::MAX) } else { 0 };
                 self.tree.gates.push(Gate { kind, k, n: n as u32 });
                 self.gate_places.push(place);
             }
@@ -107,8 +105,7 @@ impl Judge {
                 if event >= self.tree.chances.len() as u64 {
                     return refuse(6, place);
                 }
-                self.tree.inputs.push(event as u32);
-                self.missing_inputs -= 1;
+                self.add_input(event as u32)?;
             }
             Record::GateInput(gate) => {
                 if self.missing_inputs == 0 {
@@ -118,10 +115,27 @@ impl Judge {
                 if gate >= own {
                     return refuse(6, place);
                 }
-                self.tree.inputs.push(FIRST_GATE_INPUT + gate as u32);
-                self.missing_inputs -= 1;
+                self.add_input(FIRST_GATE_INPUT + gate as u32)?;
             }
             Record::End => unreachable!("the end record has its own judgement"),
+        }
+        Ok(())
+    }
+
+    /// Request 3: after the last input of an at-least gate, and before the next record is looked at, 5 at the place of the gate's record
+    /// where k is 0 or above the count of its distinct inputs.
+    fn add_input(&mut self, input: u32) -> Result<(), Refusal> {
+        self.tree.inputs.push(input);
+        self.missing_inputs -= 1;
+        let (Some(gate), Some(&place)) = (self.tree.gates.last(), self.gate_places.last()) else {
+            unreachable!("an input follows a gate")
+        };
+        if self.missing_inputs > 0 || gate.kind != AT_LEAST {
+            return Ok(());
+        }
+        let own = &self.tree.inputs[self.tree.inputs.len() - gate.n as usize..];
+        if gate.k == 0 || gate.k as usize > distinct(own).len() {
+            return refuse(5, place);
         }
         Ok(())
     }

@@ -1,7 +1,7 @@
 //! The second program behind the calls of a library: it keeps every promise about lent memory, so that
 //! the comparison can be tried on it, and on wrong programs made from it.
 
-use crate::analysis::{analyse, Lengths};
+use crate::analysis::{analyse, Analysis, Lengths};
 use crate::bracket::bracket;
 use crate::equations::{export_into, import, Import, LISTS, RING, SHOWN};
 use crate::judge::{read, write_into, Refusal};
@@ -42,6 +42,30 @@ pub fn lay_out_counts(counts: Option<&[u64]>, counting: CountAreas) {
     counting.work.into_iter().for_each(|area| area.fill(0));
 }
 
+/// What an analysis leaves and answers, of whichever program.
+pub fn lay_out_analysis(done: Result<Analysis, Refusal>, mut areas: Areas) -> AnalyseAnswer {
+    let refusal = done.as_ref().err().copied();
+    if refusal.is_none_or(|refusal| refusal.number >= 10) {
+        areas.again().clear();
+    }
+    match done {
+        Ok(done) => {
+            fill(areas.nodes, &done.robdd.nodes.table());
+            fill(areas.cuts, &done.cuts.nodes.table());
+            fill(areas.gates, &done.robdd.gate_nodes);
+            AnalyseAnswer {
+                number: 0,
+                place: 0,
+                nodes: done.robdd.nodes.count() as u64,
+                cut_nodes: done.cuts.nodes.count() as u64,
+                root: done.robdd.root(),
+                cut_root: done.cuts.root,
+            }
+        }
+        Err(Refusal { number, place }) => AnalyseAnswer { number, place, nodes: 0, cut_nodes: 0, root: 0, cut_root: 0 },
+    }
+}
+
 impl Mirror {
     /// Whether the lists of a counting are long enough for a table of so many numbers.
     pub fn counting_suffices(&self, table: usize, counting: &CountAreas) -> bool {
@@ -49,7 +73,8 @@ impl Mirror {
         counting.counts.len() >= SIZES && counting.work.iter().zip(smallest).all(|(area, least)| area.len() >= least)
     }
 
-    pub fn lengths(areas: &Areas, smallest: [usize; 4]) -> Lengths {
+    pub fn lengths(&self, areas: &Areas) -> Lengths {
+        let smallest = self.smallest_areas(areas.nodes.len() / 3, areas.cuts.len() / 3);
         Lengths {
             node_table: areas.nodes.len(),
             cut_table: areas.cuts.len(),
@@ -87,31 +112,9 @@ impl Library for Mirror {
         }
     }
 
-    fn analyse(&self, bytes: &[u8], mut areas: Areas) -> AnalyseAnswer {
-        let smallest = self.smallest_areas(areas.nodes.len() / 3, areas.cuts.len() / 3);
-        let done = analyse(bytes, Mirror::lengths(&areas, smallest));
-        let refusal = done.as_ref().err().copied();
-        if refusal.is_none_or(|refusal| refusal.number >= 10) {
-            areas.again().clear();
-        }
-        match done {
-            Ok(done) => {
-                fill(areas.nodes, &done.robdd.nodes.table());
-                fill(areas.cuts, &done.cuts.nodes.table());
-                fill(areas.gates, &done.robdd.gate_nodes);
-                AnalyseAnswer {
-                    number: 0,
-                    place: 0,
-                    nodes: done.robdd.nodes.count() as u64,
-                    cut_nodes: done.cuts.nodes.count() as u64,
-                    root: done.robdd.root(),
-                    cut_root: done.cuts.root,
-                }
-            }
-            Err(Refusal { number, place }) => {
-                AnalyseAnswer { number, place, nodes: 0, cut_nodes: 0, root: 0, cut_root: 0 }
-            }
-        }
+    fn analyse(&self, bytes: &[u8], areas: Areas) -> AnalyseAnswer {
+        let done = analyse(bytes, self.lengths(&areas));
+        lay_out_analysis(done, areas)
     }
 
     fn list(&self, diagram: &Lent, after: Option<Set>, room: &mut [u8]) -> ListAnswer {
@@ -159,9 +162,8 @@ impl Library for Mirror {
     }
 
     fn folder(&self, bytes: &[u8], lengths: &[u64], areas: Areas, counting: CountAreas) -> FolderAnswer {
-        let smallest = self.smallest_areas(areas.nodes.len() / 3, areas.cuts.len() / 3);
         let suffice = self.counting_suffices(areas.cuts.len(), &counting);
-        let answer = folder(bytes, lengths, Mirror::lengths(&areas, smallest), suffice);
+        let answer = folder(bytes, lengths, self.lengths(&areas), suffice);
         let refused = answer.as_ref().err().copied();
         if !refused.is_some_and(|refused| refused.leaves_memory()) {
             areas.clear();

@@ -92,9 +92,17 @@ pub struct Robdd {
     pub nodes_by_gate: Vec<usize>,
 }
 
+/// What an at-least gate counts of its inputs.
+pub type Counted = dyn Fn(&Robdd, &[Input]) -> Vec<Input>;
+
 impl Robdd {
     /// Refused with the number of the gate that needs more than the capacity.
     pub fn build(tree: &Tree, capacity: usize) -> Result<Robdd, u32> {
+        Robdd::build_over(tree, capacity, &|_, inputs| distinct(inputs))
+    }
+
+    /// Wrong programs count other inputs than the distinct ones.
+    pub fn build_over(tree: &Tree, capacity: usize, counted: &Counted) -> Result<Robdd, u32> {
         let mut robdd = Robdd {
             nodes: Nodes::new(capacity),
             joined: Map::default(),
@@ -102,6 +110,7 @@ impl Robdd {
             nodes_by_gate: Vec::new(),
         };
         for (number, (gate, inputs)) in tree.gates.iter().zip(tree.inputs_by_gate()).enumerate() {
+            let inputs = if gate.kind == AT_LEAST { counted(&robdd, &inputs) } else { inputs };
             let node = robdd.gate(gate, &inputs).map_err(|Full| number as u32)?;
             robdd.gate_nodes.push(node);
             robdd.nodes_by_gate.push(robdd.nodes.count());

@@ -30,6 +30,12 @@ pub enum Input {
     Gate(u32),
 }
 
+/// What stands more than once is left at its first place only.
+pub fn distinct<T: Clone + PartialEq>(items: &[T]) -> Vec<T> {
+    let first = |&place: &usize| !items[..place].contains(&items[place]);
+    (0..items.len()).filter(first).map(|place| items[place].clone()).collect()
+}
+
 /// The counts stand beside the arrays and may exceed them. What lies behind an array counts as an
 /// event of chance 0, as an and of no inputs, or as the input event 0.
 #[derive(Clone, Debug, Default, PartialEq, Eq)]

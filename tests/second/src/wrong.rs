@@ -1,11 +1,12 @@
 //! Wrong programs: the mirror with one fault each. The comparison must see every one of them.
 
+use crate::analysis::analyse_over;
 use crate::cut_diagram::CutDiagram;
 use crate::equations::LISTS;
 use crate::judge::{read, write};
 use crate::lent::Lent;
 use crate::library::*;
-use crate::mirror::Mirror;
+use crate::mirror::{lay_out_analysis, Mirror};
 use crate::robdd::Robdd;
 use crate::sets::Set;
 use crate::sizes::COUNT_AREAS;
@@ -13,6 +14,7 @@ use crate::tree::*;
 use crate::wrong_equations::{wrong_export, wrong_import};
 use crate::wrong_lent::{wrong_bracket, wrong_list};
 use crate::wrong_sizes::{wrong_folder, wrong_sizes};
+use crate::wrong_twins::{counted, wrong_read, wrong_write};
 
 // One name for each fault, and the list of them all.
 macro_rules! wrongs {
@@ -30,11 +32,20 @@ wrongs! {
     InputsSorted,
     UnusedGateAccepted,
     TotalJudgedAtTheInput,
+    ZeroAtOnce,
+    FiveAtOnce,
+    FiveAtTheLastInput,
+    FiveAfterTheNextRecord,
+    FiveOfAllInputs,
+    FiveByNumbersAlone,
+    TwinsDroppedFromJoins,
     // Writing.
     WritesUntilFull,
     ZerosBehindTheTree,
     RoomBeforeTheTree,
     UseNotJudgedOnWriting,
+    WritesFiveAtOnce,
+    WritesFiveOfAllInputs,
     // Analysis.
     SafeBound,
     OrForAtLeastOne,
@@ -47,6 +58,10 @@ wrongs! {
     AreaLeftDirty,
     CountKeptInRefusal,
     FirstGateIsRoot,
+    DoublesCountedTwice,
+    DistinctByNode,
+    DistinctByNumbersAlone,
+    DistinctAtTheLastPlaces,
     // Listing.
     FinishedAfterFirstRoom,
     FinishedIfRoomIsLeft,
@@ -101,6 +116,7 @@ wrongs! {
     GatesNumberedWhenEntered,
     EventsByFirstLine,
     OneOfOneIsOr,
+    ImportsFiveOfAllInputs,
     ShownInAnyLine,
     ShownStaysOnRefusal,
     ListLeftDirty,
@@ -177,7 +193,7 @@ impl Library for WrongProgram {
                     answer.place += 2;
                 }
             }
-            _ => {}
+            _ => answer = wrong_read(self.0, bytes, answer),
         }
         answer
     }
@@ -195,6 +211,7 @@ impl Library for WrongProgram {
                 answer = WriteAnswer { number: 9, place: 0, used: 0 };
             }
             (UseNotJudgedOnWriting, 8) => answer = WriteAnswer { number: 0, place: 0, used: 0 },
+            (WritesFiveAtOnce | WritesFiveOfAllInputs, _) => answer = wrong_write(self.0, tree, answer),
             _ => {}
         }
         answer
@@ -203,7 +220,10 @@ impl Library for WrongProgram {
     fn analyse(&self, bytes: &[u8], mut areas: Areas) -> AnalyseAnswer {
         let nodes_before = areas.nodes.to_vec();
         let other = other_steps(self.0, bytes);
-        let mut answer = Mirror.analyse(other.as_deref().unwrap_or(bytes), areas.again());
+        let mut answer = match counted(self.0) {
+            Some(counted) => lay_out_analysis(analyse_over(bytes, Mirror.lengths(&areas), &counted), areas.again()),
+            None => Mirror.analyse(other.as_deref().unwrap_or(bytes), areas.again()),
+        };
         match (self.0, answer.number) {
             (SafeBound, 0) if areas.nodes.len() < 4 * answer.nodes as usize => {
                 areas.again().clear();

@@ -113,6 +113,17 @@ fn seen(wrong: Wrong, text: &[u8]) -> Vec<u8> {
             }
             _ => own.bytes.to_vec(),
         }),
+        // An or of names, some of which stand twice, in place of more than are distinct.
+        ImportsFiveOfAllInputs => changed(text, |own| match &own.said {
+            Some(Said::Equation { left, kind: AT_LEAST, k, inputs }) if (1..=inputs.len() as u64).contains(k) => {
+                let names: Vec<&[u8]> = inputs.iter().map(|input| input.letters).collect();
+                match distinct(&names).len() as u64 >= *k {
+                    true => own.bytes.to_vec(),
+                    false => [left.letters, b" = ", &names.join(&b" or "[..]), b"\n"].concat(),
+                }
+            }
+            _ => own.bytes.to_vec(),
+        }),
         _ => text.to_vec(),
     }
 }
@@ -271,10 +282,12 @@ fn wrong_answer(wrong: Wrong, text: &[u8]) -> Import {
             renumbered(right, &events, &gates)
         }
         (ShownInAnyLine, 0) => Import { shown: shown_in_any_line(text, &right.shown), ..right },
-        (NumbersWrap | LongNumbersAreLines | LeftTwiceTaken | OneOfOneIsOr, _) => match seen(wrong, text) {
-            same if same == text => right,
-            other => typed(&other),
-        },
+        (NumbersWrap | LongNumbersAreLines | LeftTwiceTaken | OneOfOneIsOr | ImportsFiveOfAllInputs, _) => {
+            match seen(wrong, text) {
+                same if same == text => right,
+                other => typed(&other),
+            }
+        }
         _ => right,
     }
 }

@@ -102,8 +102,7 @@ fn other_totals(wrong: Wrong, bytes: &[u8], lengths: &[u64], lent: Lengths, suff
 
 pub fn wrong_folder(wrong: Wrong, bytes: &[u8], lengths: &[u64], areas: Areas, counting: CountAreas) -> FolderAnswer {
     let suffice = Mirror.counting_suffices(areas.cuts.len(), &counting);
-    let smallest = Mirror.smallest_areas(areas.nodes.len() / 3, areas.cuts.len() / 3);
-    let totals = other_totals(wrong, bytes, lengths, Mirror::lengths(&areas, smallest), suffice);
+    let totals = other_totals(wrong, bytes, lengths, Mirror.lengths(&areas), suffice);
     let refused = totals.as_ref().err().copied();
     let RefusedFolder { number, place, tree } = refused.unwrap_or(RefusedFolder::whole(0));
     let stays = refused.is_some_and(|refused| refused.leaves_memory());

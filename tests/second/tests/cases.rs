@@ -173,11 +173,11 @@ fn case_10_certain_chance() {
 }
 
 #[test]
-fn a_name_that_stands_twice_counts_twice() {
+fn a_name_that_stands_twice_counts_once() {
     let mut tree = Tree::of_chances(&[TENTH; 2]);
     at_least(&mut tree, 2, &[Event(0), Event(0), Event(1)]);
     let done = analysed(&tree);
-    assert_eq!((cuts(&done), done.robdd.nodes.count()), (vec![vec![0]], 4));
+    assert_eq!((cuts(&done), done.robdd.nodes.count()), (vec![vec![0, 1]], 3));
 }
 
 #[test]

@@ -196,6 +196,7 @@ fn limits_in_the_order_of_records() {
     assert_eq!(answer(&format!("a = {} or c\np c {above}\n", inputs(65))).0, 7);
     // 4 before 5 in a record; then the gate that the walk leaves first.
     assert_eq!(answer(&format!("a = at-least 0 in {}\n", vec!["b"; 65].join(", "))).0, 4);
+    assert_eq!(answer(&format!("a = at-least 2 in {}\n", vec!["b"; 64].join(", "))).0, 5);
     assert_eq!(answer(&format!("a = x or y\nx = {}\ny = at-least 0 in b\n", inputs(65))).0, 4);
     assert_eq!(answer(&format!("a = y or x\nx = {}\ny = at-least 0 in b\n", inputs(65))).0, 5);
     // 512 gates in a chain, 513; then 4,096 inputs in all, 4,097.
@@ -296,7 +297,9 @@ fn longest_text() {
             _ => (AND, 0, 63, 63),
         };
         let mut inputs: Vec<Input> = (0..first_uses).filter_map(|_| unused.pop_front()).collect();
-        inputs.resize(n, Event(255));
+        // Two that are distinct.
+        let other = if inputs == [Event(255)] { Event(254) } else { Event(255) };
+        inputs.resize(n, other);
         unused.push_back(Input::Gate(tree.add_gate(kind, k, &inputs)));
     }
     assert_eq!(tree.inputs.len(), MOST_INPUTS);

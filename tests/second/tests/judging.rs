@@ -1,10 +1,11 @@
 //! Reading and writing: damage with a known number and place, trees in memory, and the limits.
 
-use second::damage::{damaged, raw_bytes, tree_in_memory};
+use second::damage::damaged;
 use second::generator::{self, large_shape, middle_shape, small_shape, tree};
 use second::judge::{read, refuse, write, write_into, Refusal};
 use second::random::Random;
 use second::tree::*;
+use second::unlawful::{raw_bytes, tree_in_memory};
 use std::collections::BTreeSet;
 
 #[test]

@@ -1,10 +1,12 @@
 //! The comparison itself: it passes the mirror, and it sees every wrong program.
 
 use second::compare::compare_input;
+use second::compare_large::compare_twins;
 use second::library::Library;
 use second::mirror::Mirror;
+use second::random::Random;
 use second::tally::Tally;
-use second::wrong::{WrongProgram, ALL};
+use second::wrong::{Wrong, WrongProgram, ALL};
 
 fn tally(library: &dyn Library, inputs: u64) -> Tally {
     let mut tally = Tally::default();
@@ -32,6 +34,34 @@ fn the_mirror_passes() {
     assert_eq!(numbers("export"), [0, 2, 4, 5, 6, 7, 8, 9]);
     assert_eq!(numbers("sizes"), [0, 9, 12, 19]);
     assert_eq!(numbers("folder"), [0, 1, 2, 3, 4, 5, 6, 7, 8, 9, 10, 11, 19]);
+}
+
+/// The cases of request 3 by themselves tell every wrong program about twins from the mirror, but those that write trees in memory.
+#[test]
+fn twins_are_told_apart() {
+    let tally = |library: &dyn Library| {
+        let mut tally = Tally::default();
+        compare_twins(library, &mut Random::new(0), &mut tally);
+        tally
+    };
+    let right = tally(&Mirror);
+    assert_eq!(right.failed, 0, "{}", right.first_difference.unwrap_or_default());
+    for wrong in [
+        Wrong::ZeroAtOnce,
+        Wrong::FiveAtOnce,
+        Wrong::FiveAtTheLastInput,
+        Wrong::FiveAfterTheNextRecord,
+        Wrong::FiveOfAllInputs,
+        Wrong::FiveByNumbersAlone,
+        Wrong::TwinsDroppedFromJoins,
+        Wrong::DoublesCountedTwice,
+        Wrong::DistinctByNode,
+        Wrong::DistinctByNumbersAlone,
+        Wrong::DistinctAtTheLastPlaces,
+        Wrong::ImportsFiveOfAllInputs,
+    ] {
+        assert!(tally(&WrongProgram(wrong)).failed > 0, "{wrong:?} passes");
+    }
 }
 
 #[test]

@@ -1,37 +1,16 @@
+-- `gates::gate_node` meets its contract. Assumes nothing.
 use borrow.Author.Needs.{needs}
-use mathlib.Core.Path.{sym}
 use mathlib.Core.List.{map}
-use Prim.Native.Nat.{ℕ}
-use lib.ListN.{length-replicate}
+use lib.ListN.{take}
 use Rattle.tables.specs.Table.{den}
 use Rattle.paper.specs.Flat.{inputOf}
-use Rattle.gates.proofs.ByKind.{gate-held, row-fits, row-long, row-some, row-within, gate-gains, gate-short}
+use Rattle.gates.proofs.ByKind.{gains-counted}
+use Rattle.gates.proofs.Counted.{all-of-and, all-of-or, distinct-of-least, found-fits, found-long, found-own}
 use Rattle.gates.proofs.gate_node.Statement.{statement}
 use Rattle.gates.proofs.gate_node.Tie as tie
 
-input-nodes-requires : tie.Need-input-nodes-requires
-input-nodes-requires c κs = ((c .before .before .before .before .before .before .before .before .before .before .pre .0) .store, ((c .before .before .before .before .before .before .before .before .before .before .pre .1 .0), ((c .before .before .before .before .before .before .before .before .before .before .pre .1 .1 .0), length-replicate {A = ℕ} 64 0)))
-
-enum-known-used : tie.Need-enum-known-used
-enum-known-used c = search needs
-
-array-share-prefix-row : tie.Need-array-share-prefix-row
-array-share-prefix-row c = row-fits (c .before .before .before .before .before .before .before .before .before .before .before .before .before .before .before .before .before .before .before .before .before .before .before .before .args .gates .now) (c .before .before .before .before .before .before .before .before .before .before .before .before .before .before .before .before .before .before .before .before .before .before .before .before .args .inputs .now) (c .before .before .before .before .before .before .before .before .before .before .before .before .before .before .before .before .before .before .before .before .before .before .before .before .pre .0) (c .before .before .before .before .before .before .before .before .before .before .before .before .before .before .before .before .before .before .before .before .before .before .before .before .pre .1 .1 .0) (rw (c .before .before .before .before .before .used .given .1) at (c .before .before .before .before .before .before .before .before .before .before .before .before .before .input-nodes .ensures))
-
-slice-aggregate-combined : tie.Need-slice-aggregate-combined
-slice-aggregate-combined c = sym (row-long (c .before .before .before .before .before .before .before .before .before .before .before .before .before .before .before .before .before .before .before .before .before .before .before .before .before .args .gates .now) (c .before .before .before .before .before .before .before .before .before .before .before .before .before .before .before .before .before .before .before .before .before .before .before .before .before .args .inputs .now) (c .before .before .before .before .before .before .before .before .before .before .before .before .before .before .before .before .before .before .before .before .before .before .before .before .before .pre .0) (c .before .before .before .before .before .before .before .before .before .before .before .before .before .before .before .before .before .before .before .before .before .before .before .before .before .pre .1 .1 .0) (rw (c .before .before .before .before .before .before .used .given .1) at (c .before .before .before .before .before .before .before .before .before .before .before .before .before .before .input-nodes .ensures)))
-
-combined-requires : tie.Need-combined-requires
-combined-requires c κs =
-    let a = rw (c .before .before .before .before .before .before .used .given .1) at (c .before .before .before .before .before .before .before .before .before .before .before .before .before .before .input-nodes .ensures) in
-    let h = (c .before .before .before .before .before .before .before .before .before .before .before .before .before .before .before .before .before .before .before .before .before .before .before .before .before .pre .0) in
-    let w = (c .before .before .before .before .before .before .before .before .before .before .before .before .before .before .before .before .before .before .before .before .before .before .before .before .before .pre .1 .1 .0) in
-    let G = (c .before .before .before .before .before .before .before .before .before .before .before .before .before .before .before .before .before .before .before .before .before .before .before .before .before .args .gates .now) in
-    let own = (c .before .before .before .before .before .before .before .before .before .before .before .before .before .before .before .before .before .before .before .before .before .before .before .before .before .args .inputs .now) in
-    (gate-held G own h w a, (row-within G own h w a, (row-some G own h w a, (c .before .before .before .before .before .before .before .before .before .before .before .before .before .before .before .before .before .before .before .before .before .before .before .before .before .pre .1 .1 .1))))
-
-enum-known-used-2 : tie.Need-enum-known-used-2
-enum-known-used-2 c = search needs
+gate-over-requires : tie.Need-gate-over-requires
+gate-over-requires c κs = search needs
 
 same-length : tie.Need-same-length
 same-length c = search needs
@@ -47,8 +26,14 @@ same-length-4 c = search needs
 
 returns : tie.Need-returns
 returns c =
-    let a = rw (c .before .before .before .before .before .before .before .before .before .before .before .before .before .before .before .used .given .1) at (c .before .before .before .before .before .before .before .before .before .before .before .before .before .before .before .before .before .before .before .before .before .before .before .input-nodes .ensures) in
-    gate-gains (c .before .before .before .before .before .before .before .before .before .before .before .before .before .before .before .before .before .before .before .before .before .before .before .before .before .before .before .before .before .before .before .before .before .before .args .gates .now) (c .before .before .before .before .before .before .before .before .before .before .before .before .before .before .before .before .before .before .before .before .before .before .before .before .before .before .before .before .before .before .before .before .before .before .args .inputs .now) (c .before .before .before .before .before .before .before .before .before .before .before .before .before .before .before .before .before .before .before .before .before .before .before .before .before .before .before .before .before .before .before .before .before .before .pre .0) (c .before .before .before .before .before .before .before .before .before .before .before .before .before .before .before .before .before .before .before .before .before .before .before .before .before .before .before .before .before .before .before .before .before .before .pre .1 .1 .0) a (c .before .before .before .before .before .before .before .before .before .before .before .before .before .before .before .before .before .before .before .before .before .before .before .before .before .before .before .before .before .before .before .before .before .before .args .kind) (c .before .before .before .before .before .before .before .before .before .before .before .before .before .before .before .before .before .before .before .before .before .before .before .before .before .before .before .before .before .before .before .before .before .before .args .k) (c .before .before .before .before .before .before .before .before .combined .last .0) (c .before .before .before .before .before .before .before .before .combined .last .1 .0) (c .before .before .before .before .before .before .before .before .combined .last .1 .1 .0) (c .before .before .before .before .before .before .before .before .combined .last .1 .1 .1 .0) (c .before .before .before .before .before .before .before .before .combined .result) (c .before .before .before .before .before .before .before .before .combined .ensures)
+    let a = c .before .before .before .before .before .before .before .before .before .before .before .before .before .before .before .before .before .before .before .before .args in
+    let g = c .before .before .before .before .before .before .before .before .gate-over in
+    let is = map inputOf (a .inputs .now) in
+    gains-counted (map (den (a .nodes .now)) (a .gates .now)) (a .kind) (a .k) is (a .nodes .now) (a .count) (g .last .0) (g .last .1 .0) (g .last .1 .1 .0) (g .last .1 .1 .1 .0) (g .result)
+    is (all-of-and is (c .before .before .before .before .before .before .before .before .before .before .before .before .before .if1 .taken)) (g .ensures)
+
+gate-over-requires-2 : tie.Need-gate-over-requires-2
+gate-over-requires-2 c κs = search needs
 
 same-length-5 : tie.Need-same-length-5
 same-length-5 c = search needs
@@ -59,25 +44,71 @@ same-length-6 c = search needs
 same-length-7 : tie.Need-same-length-7
 same-length-7 c = search needs
 
+same-length-8 : tie.Need-same-length-8
+same-length-8 c = search needs
+
 returns-2 : tie.Need-returns-2
-returns-2 c = gate-short (map (den (c .before .before .before .before .before .before .before .before .before .before .before .before .before .before .before .before .before .before .before .before .args .nodes .now)) (c .before .before .before .before .before .before .before .before .before .before .before .before .before .before .before .before .before .before .before .before .args .gates .now)) (c .before .before .before .before .before .before .before .before .before .before .before .before .before .before .before .before .before .before .before .before .args .kind) (c .before .before .before .before .before .before .before .before .before .before .before .before .before .before .before .before .before .before .before .before .args .k) (map inputOf (c .before .before .before .before .before .before .before .before .before .before .before .before .before .before .before .before .before .before .before .before .args .inputs .now)) (rw (c .before .used2 .given .1) at (c .before .before .before .before .before .before .before .before .before .input-nodes .ensures))
+returns-2 c =
+    let a = c .before .before .before .before .before .before .before .before .before .before .before .before .before .before .before .before .before .before .before .before .before .args in
+    let g = c .before .before .before .before .before .before .before .before .gate-over2 in
+    let is = map inputOf (a .inputs .now) in
+    gains-counted (map (den (a .nodes .now)) (a .gates .now)) (a .kind) (a .k) is (a .nodes .now) (a .count) (g .last .0) (g .last .1 .0) (g .last .1 .1 .0) (g .last .1 .1 .1 .0) (g .result)
+    is (all-of-or is (c .before .before .before .before .before .before .before .before .before .before .before .before .before .before .if1 .left) (c .before .before .before .before .before .before .before .before .before .before .before .before .before .if2 .taken)) (g .ensures)
+
+distinct-requires : tie.Need-distinct-requires
+distinct-requires c κs = search needs
+
+array-share-prefix-own : tie.Need-array-share-prefix-own
+array-share-prefix-own c = found-fits (c .before .before .before .before .distinct .ensures) (c .before .before .before .before .before .before .before .before .before .before .before .before .before .before .pre .1 .1 .0)
+
+slice-aggregate-gate-over : tie.Need-slice-aggregate-gate-over
+slice-aggregate-gate-over c = found-long (c .before .before .before .before .before .distinct .ensures) (c .before .before .before .before .before .before .before .before .before .before .before .before .before .before .before .pre .1 .1 .0)
+
+gate-over-requires-3 : tie.Need-gate-over-requires-3
+gate-over-requires-3 c κs = (c .before .before .before .before .before .before .before .before .before .before .before .before .before .before .before .pre .0, (c .before .before .before .before .before .before .before .before .before .before .before .before .before .before .before .pre .1 .0, (found-own (c .before .before .before .before .before .distinct .ensures) (c .before .before .before .before .before .before .before .before .before .before .before .before .before .before .before .pre .1 .1 .0), c .before .before .before .before .before .before .before .before .before .before .before .before .before .before .before .pre .1 .1 .1)))
+
+same-length-9 : tie.Need-same-length-9
+same-length-9 c = search needs
+
+same-length-10 : tie.Need-same-length-10
+same-length-10 c = search needs
+
+same-length-11 : tie.Need-same-length-11
+same-length-11 c = search needs
+
+same-length-12 : tie.Need-same-length-12
+same-length-12 c = search needs
+
+returns-3 : tie.Need-returns-3
+returns-3 c =
+    let a = c .before .before .before .before .before .before .before .before .before .before .before .before .before .before .before .before .before .before .before .before .before .before .before .before .args in
+    let g = c .before .before .before .before .before .before .before .before .gate-over3 in
+    let is = map inputOf (a .inputs .now) in
+    gains-counted (map (den (a .nodes .now)) (a .gates .now)) (a .kind) (a .k) is (a .nodes .now) (a .count) (g .last .0) (g .last .1 .0) (g .last .1 .1 .0) (g .last .1 .1 .1 .0) (g .result)
+    (map inputOf (take (c .before .before .before .before .before .before .before .before .before .before .before .before .before .before .distinct .result) (c .before .before .before .before .before .before .before .before .before .before .before .before .before .before .distinct .last .1 .0))) (distinct-of-least (c .before .before .before .before .before .before .before .before .before .before .before .before .before .before .distinct .ensures) (c .before .before .before .before .before .before .before .before .before .before .before .before .before .before .before .before .before .if1 .left) (c .before .before .before .before .before .before .before .before .before .before .before .before .before .before .before .before .if2 .left)) (g .ensures)
 
 pub gate-node-spec : {M : Type 1} → statement M
 gate-node-spec =
     tie.close
     (tie.spec
-    input-nodes-requires
-    enum-known-used
-    array-share-prefix-row
-    slice-aggregate-combined
-    combined-requires
-    enum-known-used-2
+    gate-over-requires
     same-length
     same-length-2
     same-length-3
     same-length-4
     returns
+    gate-over-requires-2
     same-length-5
     same-length-6
     same-length-7
-    returns-2)
+    same-length-8
+    returns-2
+    distinct-requires
+    array-share-prefix-own
+    slice-aggregate-gate-over
+    gate-over-requires-3
+    same-length-9
+    same-length-10
+    same-length-11
+    same-length-12
+    returns-3)

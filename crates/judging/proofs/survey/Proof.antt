@@ -9,7 +9,7 @@ use Rattle.judging.specs.Bytes.{bytesOf}
 use Rattle.rules.proofs.Cases.{width-small}
 use Rattle.records.proofs.Runs.{running-bounded}
 use Rattle.judging.proofs.Following.{next-is}
-use Rattle.judging.proofs.Surveying.{Surveying, survey-start, survey-sound, survey-event, survey-gate, survey-input, survey-ready, survey-close, survey-refused}
+use Rattle.judging.proofs.Surveying.{Surveying, survey-start, survey-sound, survey-event, survey-gate, survey-counted, survey-input, survey-starved, survey-ready, survey-close, survey-refused}
 use borrow.Author.Needs.{needs}
 use Rattle.judging.proofs.survey.Statement.{statement}
 use Rattle.judging.proofs.survey.Tie as tie
@@ -93,11 +93,29 @@ array-write-inputs c = omega (arith, survey-sound (c .before .before .before .be
 past-input-requires : tie.Need-past-input-requires Inv-loop μ-loop
 past-input-requires c κs = (running-bounded (c .before .before .before .before .before .before .before .before .before .before .before .before .before .loop .inv .running), survey-sound (c .before .before .before .before .before .before .before .before .before .before .before .before .before .loop .inv) (next-is (c .before .before .before .before .before .before .before .before .before .before .before .before .before .loop .inv .following) (c .before .before .before .before .before .before .before .before .before .before .before .before .within .ensures) (c .before .before .before .before .before .tree-record .ensures .0)) (c .before .before .before .before .before .tree-record .ensures .1) (sym (c .before .code .given .1) ∙ (rw (c .before .before .before .before .width .ensures) at (c .before .before .before .admit .ensures))) .some)
 
+starved-requires : tie.Need-starved-requires Inv-loop μ-loop
+starved-requires c κs = rw (c .before .before .before .before .before .past-input .ensures) (survey-counted (c .before .before .before .before .before .before .before .before .before .before .before .before .before .before .before .before .before .before .before .loop .inv) (next-is (c .before .before .before .before .before .before .before .before .before .before .before .before .before .before .before .before .before .before .before .loop .inv .following) (c .before .before .before .before .before .before .before .before .before .before .before .before .before .before .before .before .before .before .within .ensures) (c .before .before .before .before .before .before .before .before .before .before .before .tree-record .ensures .0)) (c .before .before .before .before .before .before .before .before .before .before .before .tree-record .ensures .1) (sym (c .before .before .before .before .before .before .before .code .given .1) ∙ (rw (c .before .before .before .before .before .before .before .before .before .before .width .ensures) at (c .before .before .before .before .before .before .before .before .before .admit .ensures))))
+
+sub-gate : tie.Need-sub-gate Inv-loop μ-loop
+sub-gate c = survey-counted (c .before .before .before .before .before .before .before .before .before .before .before .before .before .before .before .before .before .before .before .before .before .loop .inv) (next-is (c .before .before .before .before .before .before .before .before .before .before .before .before .before .before .before .before .before .before .before .before .before .loop .inv .following) (c .before .before .before .before .before .before .before .before .before .before .before .before .before .before .before .before .before .before .before .before .within .ensures) (c .before .before .before .before .before .before .before .before .before .before .before .before .before .tree-record .ensures .0)) (c .before .before .before .before .before .before .before .before .before .before .before .before .before .tree-record .ensures .1) (sym (c .before .before .before .before .before .before .before .before .before .code .given .1) ∙ (rw (c .before .before .before .before .before .before .before .before .before .before .before .before .width .ensures) at (c .before .before .before .before .before .before .before .before .before .before .before .admit .ensures))) .some
+
+mul-gate : tie.Need-mul-gate Inv-loop μ-loop
+mul-gate c = omega (arith, survey-counted (c .before .before .before .before .before .before .before .before .before .before .before .before .before .before .before .before .before .before .before .before .before .loop .inv) (next-is (c .before .before .before .before .before .before .before .before .before .before .before .before .before .before .before .before .before .before .before .before .before .loop .inv .following) (c .before .before .before .before .before .before .before .before .before .before .before .before .before .before .before .before .before .before .before .before .within .ensures) (c .before .before .before .before .before .before .before .before .before .before .before .before .before .tree-record .ensures .0)) (c .before .before .before .before .before .before .before .before .before .before .before .before .before .tree-record .ensures .1) (sym (c .before .before .before .before .before .before .before .before .before .code .given .1) ∙ (rw (c .before .before .before .before .before .before .before .before .before .before .before .before .width .ensures) at (c .before .before .before .before .before .before .before .before .before .before .before .admit .ensures))))
+
+array-read-gate : tie.Need-array-read-gate Inv-loop μ-loop
+array-read-gate c = omega (arith, survey-counted (c .before .before .before .before .before .before .before .before .before .before .before .before .before .before .before .before .before .before .before .before .before .loop .inv) (next-is (c .before .before .before .before .before .before .before .before .before .before .before .before .before .before .before .before .before .before .before .before .before .loop .inv .following) (c .before .before .before .before .before .before .before .before .before .before .before .before .before .before .before .before .before .before .before .before .within .ensures) (c .before .before .before .before .before .before .before .before .before .before .before .before .before .tree-record .ensures .0)) (c .before .before .before .before .before .before .before .before .before .before .before .before .before .tree-record .ensures .1) (sym (c .before .before .before .before .before .before .before .before .before .code .given .1) ∙ (rw (c .before .before .before .before .before .before .before .before .before .before .before .before .width .ensures) at (c .before .before .before .before .before .before .before .before .before .before .before .admit .ensures))))
+
+unwritten-requires : tie.Need-unwritten-requires Inv-loop μ-loop
+unwritten-requires c κs = search needs
+
+returns : tie.Need-returns Inv-loop μ-loop
+returns c = survey-starved (c .before .before .before .before .before .before .before .before .before .before .before .before .before .before .before .before .before .before .before .before .before .before .loop .inv) (next-is (c .before .before .before .before .before .before .before .before .before .before .before .before .before .before .before .before .before .before .before .before .before .before .loop .inv .following) (c .before .before .before .before .before .before .before .before .before .before .before .before .before .before .before .before .before .before .before .before .before .within .ensures) (c .before .before .before .before .before .before .before .before .before .before .before .before .before .before .tree-record .ensures .0)) (c .before .before .before .before .before .before .before .before .before .before .before .before .before .before .tree-record .ensures .1) (sym (c .before .before .before .before .before .before .before .before .before .before .code .given .1) ∙ (rw (c .before .before .before .before .before .before .before .before .before .before .before .before .before .width .ensures) at (c .before .before .before .before .before .before .before .before .before .before .before .before .admit .ensures))) (sym (rw (c .before .before .before .before .before .before .before .before .past-input .ensures) at (c .before .before .starved .ensures)) ∙ c .before .if1 .taken) (c .unwritten .ensures .0)
+
 loop-less-3 : tie.Need-loop-less-3 Inv-loop μ-loop
-loop-less-3 c = rw (c .past-input .ensures) (omega (arith, survey-sound (c .before .before .before .before .before .before .before .before .before .before .before .before .before .before .loop .inv) (next-is (c .before .before .before .before .before .before .before .before .before .before .before .before .before .before .loop .inv .following) (c .before .before .before .before .before .before .before .before .before .before .before .before .before .within .ensures) (c .before .before .before .before .before .before .tree-record .ensures .0)) (c .before .before .before .before .before .before .tree-record .ensures .1) (sym (c .before .before .code .given .1) ∙ (rw (c .before .before .before .before .before .width .ensures) at (c .before .before .before .before .admit .ensures)))))
+loop-less-3 c = rw (c .before .before .before .before .before .before .before .past-input .ensures) (omega (arith, survey-sound (c .before .before .before .before .before .before .before .before .before .before .before .before .before .before .before .before .before .before .before .before .before .loop .inv) (next-is (c .before .before .before .before .before .before .before .before .before .before .before .before .before .before .before .before .before .before .before .before .before .loop .inv .following) (c .before .before .before .before .before .before .before .before .before .before .before .before .before .before .before .before .before .before .before .before .within .ensures) (c .before .before .before .before .before .before .before .before .before .before .before .before .before .tree-record .ensures .0)) (c .before .before .before .before .before .before .before .before .before .before .before .before .before .tree-record .ensures .1) (sym (c .before .before .before .before .before .before .before .before .before .code .given .1) ∙ (rw (c .before .before .before .before .before .before .before .before .before .before .before .before .width .ensures) at (c .before .before .before .before .before .before .before .before .before .before .before .admit .ensures)))))
 
 loop-again-3 : tie.Need-loop-again-3 Inv-loop μ-loop
-loop-again-3 c = rw (c .past-input .ensures) (survey-input (c .before .before .before .before .before .before .before .before .before .before .before .before .before .before .loop .inv) (next-is (c .before .before .before .before .before .before .before .before .before .before .before .before .before .before .loop .inv .following) (c .before .before .before .before .before .before .before .before .before .before .before .before .before .within .ensures) (c .before .before .before .before .before .before .tree-record .ensures .0)) (c .before .before .before .before .before .before .tree-record .ensures .1) _ _ (sym (c .before .before .code .given .1) ∙ (rw (c .before .before .before .before .before .width .ensures) at (c .before .before .before .before .admit .ensures))))
+loop-again-3 c = rw (c .before .before .before .before .before .before .before .past-input .ensures) (survey-input (c .before .before .before .before .before .before .before .before .before .before .before .before .before .before .before .before .before .before .before .before .before .loop .inv) (next-is (c .before .before .before .before .before .before .before .before .before .before .before .before .before .before .before .before .before .before .before .before .before .loop .inv .following) (c .before .before .before .before .before .before .before .before .before .before .before .before .before .before .before .before .before .before .before .before .within .ensures) (c .before .before .before .before .before .before .before .before .before .before .before .before .before .tree-record .ensures .0)) (c .before .before .before .before .before .before .before .before .before .before .before .before .before .tree-record .ensures .1) (sym (c .before .before .before .before .before .before .before .before .before .code .given .1) ∙ (rw (c .before .before .before .before .before .before .before .before .before .before .before .before .width .ensures) at (c .before .before .before .before .before .before .before .before .before .before .before .admit .ensures))) (sym (rw (c .before .before .before .before .before .before .before .past-input .ensures) at (c .before .starved .ensures)) ∙ c .if1 .left))
 
 enum-told : tie.Need-enum-told Inv-loop μ-loop
 enum-told c = search needs
@@ -111,17 +129,17 @@ add-surveyed c = omega (arith, c .before .before .before .before .before .before
 surveyed-requires : tie.Need-surveyed-requires Inv-loop μ-loop
 surveyed-requires c κs = search needs
 
-returns : tie.Need-returns Inv-loop μ-loop
-returns c = survey-close (c .before .before .before .before .before .before .before .before .before .before .before .before .before .before .loop .inv) (next-is (c .before .before .before .before .before .before .before .before .before .before .before .before .before .before .loop .inv .following) (c .before .before .before .before .before .before .before .before .before .before .before .before .before .within .ensures) (c .before .before .before .before .before .before .tree-record .ensures .0)) (c .before .before .before .before .before .before .tree-record .ensures .1) (sym (c .before .before .enum-told .given .1) ∙ (rw (c .before .before .before .before .before .width .ensures) at (c .before .before .before .before .admit .ensures))) (c .before .unused-in .ensures) (c .surveyed .ensures)
+returns-2 : tie.Need-returns-2 Inv-loop μ-loop
+returns-2 c = survey-close (c .before .before .before .before .before .before .before .before .before .before .before .before .before .before .loop .inv) (next-is (c .before .before .before .before .before .before .before .before .before .before .before .before .before .before .loop .inv .following) (c .before .before .before .before .before .before .before .before .before .before .before .before .before .within .ensures) (c .before .before .before .before .before .before .tree-record .ensures .0)) (c .before .before .before .before .before .before .tree-record .ensures .1) (sym (c .before .before .enum-told .given .1) ∙ (rw (c .before .before .before .before .before .width .ensures) at (c .before .before .before .before .admit .ensures))) (c .before .unused-in .ensures) (c .surveyed .ensures)
 
 enum-known-answer : tie.Need-enum-known-answer Inv-loop μ-loop
 enum-known-answer c = search needs
 
-unwritten-requires : tie.Need-unwritten-requires Inv-loop μ-loop
-unwritten-requires c κs = search needs
+unwritten-requires-2 : tie.Need-unwritten-requires-2 Inv-loop μ-loop
+unwritten-requires-2 c κs = search needs
 
-returns-2 : tie.Need-returns-2 Inv-loop μ-loop
-returns-2 c = survey-refused (c .before .before .before .before .before .before .before .before .before .before .before .before .before .before .loop .inv) (next-is (c .before .before .before .before .before .before .before .before .before .before .before .before .before .before .loop .inv .following) (c .before .before .before .before .before .before .before .before .before .before .before .before .before .within .ensures) (c .before .before .before .before .before .before .tree-record .ensures .0)) (c .before .before .before .before .before .before .tree-record .ensures .1) _ (sym (c .before .before .answer .given .1) ∙ (rw (c .before .before .before .before .before .width .ensures) at (c .before .before .before .before .admit .ensures))) (c .unwritten .ensures .0)
+returns-3 : tie.Need-returns-3 Inv-loop μ-loop
+returns-3 c = survey-refused (c .before .before .before .before .before .before .before .before .before .before .before .before .before .before .loop .inv) (next-is (c .before .before .before .before .before .before .before .before .before .before .before .before .before .before .loop .inv .following) (c .before .before .before .before .before .before .before .before .before .before .before .before .before .within .ensures) (c .before .before .before .before .before .before .tree-record .ensures .0)) (c .before .before .before .before .before .before .tree-record .ensures .1) _ (sym (c .before .before .answer .given .1) ∙ (rw (c .before .before .before .before .before .width .ensures) at (c .before .before .before .before .admit .ensures))) (c .unwritten2 .ensures .0)
 
 pub survey-spec : {M : Type 1} → statement M
 survey-spec =
@@ -153,13 +171,19 @@ survey-spec =
     mul-inputs
     array-write-inputs
     past-input-requires
+    starved-requires
+    sub-gate
+    mul-gate
+    array-read-gate
+    unwritten-requires
+    returns
     loop-less-3
     loop-again-3
     enum-told
     unused-in-requires
     add-surveyed
     surveyed-requires
-    returns
+    returns-2
     enum-known-answer
-    unwritten-requires
-    returns-2)
+    unwritten-requires-2
+    returns-3)

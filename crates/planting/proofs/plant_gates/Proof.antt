@@ -6,7 +6,7 @@ use lib.ListN.{take}
 use Rattle.records.specs.Memory.{pad}
 use Rattle.planting.specs.Orders.{gatesAmong}
 use Rattle.planting.specs.Planting.{GatesIn}
-use Rattle.planting.proofs.Growing.{grown-none, grown-room, grown-low, grown-event, grown-kind, grown-broken, grown-few, grown-small, grown-fits, grown-least, grown-putable, grown-gate, grown-all}
+use Rattle.planting.proofs.Growing.{grown-none, grown-room, grown-low, grown-event, grown-kind, grown-broken, grown-few, grown-small, grown-fits, grown-least, grown-putable, grown-sortable, grown-gate, grown-all}
 use Rattle.planting.proofs.plant_gates.Statement.{statement}
 use Rattle.planting.proofs.plant_gates.Tie as tie
 
@@ -47,47 +47,50 @@ mul-k c = omega (arith, grown-low (c .before .before .before .before .before .be
 shared-slice-read-k : tie.Need-shared-slice-read-k Inv-loop μ-loop
 shared-slice-read-k c = omega (arith, grown-low (c .before .before .before .before .before .before .before .before .before .before .before .before .before .before .pre .0) (c .before .before .before .before .before .before .loop-test .taken) (c .before .before .before .before .wide .ensures), c .before .before .before .before .before .before .before .before .before .before .before .before .before .before .pre .0 .leasts)
 
+distinct-inputs-requires : tie.Need-distinct-inputs-requires Inv-loop μ-loop
+distinct-inputs-requires c κs = grown-sortable (c .before .before .before .before .before .before .before .before .before .before .before .before .before .before .pre .0) (c .before .before .before .before .before .before .loop-test .taken) (c .before .before .before .before .wide .ensures) (c .before .before .before .before .before .before .before .loop .inv .1) (c .before .before .before .size .ensures) (c .before .before .if1 .taken) (c .before .before .before .before .before .before .before .before .before .before .before .before .before .before .pre .1)
+
 gate-breaks-requires : tie.Need-gate-breaks-requires Inv-loop μ-loop
-gate-breaks-requires c κs = grown-room (c .before .before .before .before .before .before .before .loop .inv .1)
+gate-breaks-requires c κs = grown-room (c .before .before .before .before .before .before .before .before .loop .inv .1)
 
 refused-requires : tie.Need-refused-requires Inv-loop μ-loop
 refused-requires c κs = search needs
 
 returns : tie.Need-returns Inv-loop μ-loop
-returns c = grown-broken (c .before .before .before .before .before .before .before .before .before .before .before .before .before .before .before .before .before .pre .0) (c .before .before .before .before .before .before .before .before .before .loop-test .taken) (c .before .before .before .before .before .before .before .wide .ensures) (c .before .before .before .before .before .before .before .before .before .before .loop .inv .1) (c .before .before .before .before .before .before .size .ensures) (c .before .before .before .before .before .if1 .taken) (c .before .before .gate-breaks .ensures) (c .before .if2 .taken) (c .before .before .before .before .before .before .before .before .before .before .before .before .before .before .before .before .before .args .sown) (c .refused .ensures)
+returns c = grown-broken (c .before .before .before .before .before .before .before .before .before .before .before .before .before .before .before .before .before .before .pre .0) (c .before .before .before .before .before .before .before .before .before .before .loop-test .taken) (c .before .before .before .before .before .before .before .before .wide .ensures) (c .before .before .before .before .before .before .before .before .before .before .before .loop .inv .1) (c .before .before .before .before .before .before .before .size .ensures) (c .before .before .before .before .before .before .if1 .taken) (c .before .before .before .distinct-inputs .ensures) (c .before .before .gate-breaks .ensures) (c .before .if2 .taken) (c .before .before .before .before .before .before .before .before .before .before .before .before .before .before .before .before .before .before .args .sown) (c .refused .ensures)
 
 cast-ks : tie.Need-cast-ks Inv-loop μ-loop
-cast-ks c = omega (arith, grown-kind (c .before .before .before .before .before .before .before .before .before .before .before .before .before .before .before .before .pre .0) (c .before .before .before .before .before .before .before .before .loop-test .taken) (c .before .before .before .before .before .before .wide .ensures) (c .before .before .before .before .before .before .before .before .before .loop .inv .1) (c .before .before .before .before .before .size .ensures) (c .before .before .before .before .if1 .taken) .1)
+cast-ks c = omega (arith, grown-kind (c .before .before .before .before .before .before .before .before .before .before .before .before .before .before .before .before .before .pre .0) (c .before .before .before .before .before .before .before .before .before .loop-test .taken) (c .before .before .before .before .before .before .before .wide .ensures) (c .before .before .before .before .before .before .before .before .before .before .loop .inv .1) (c .before .before .before .before .before .before .size .ensures) (c .before .before .before .before .before .if1 .taken) .1)
 
 array-write-ks : tie.Need-array-write-ks Inv-loop μ-loop
-array-write-ks c = omega (arith, grown-few (c .before .before .before .before .before .before .before .before .before .before .before .before .before .before .before .before .pre .0) (c .before .before .before .before .before .before .before .before .loop-test .taken) (c .before .before .before .before .before .before .wide .ensures) (c .before .before .before .before .before .before .before .before .before .loop .inv .1) (c .before .before .before .before .before .size .ensures) (c .before .before .before .before .if1 .taken) (c .before .gate-breaks .ensures) (c .if2 .left))
+array-write-ks c = omega (arith, grown-few (c .before .before .before .before .before .before .before .before .before .before .before .before .before .before .before .before .before .pre .0) (c .before .before .before .before .before .before .before .before .before .loop-test .taken) (c .before .before .before .before .before .before .before .wide .ensures) (c .before .before .before .before .before .before .before .before .before .before .loop .inv .1) (c .before .before .before .before .before .before .size .ensures) (c .before .before .before .before .before .if1 .taken) (c .before .before .distinct-inputs .ensures) (c .before .gate-breaks .ensures) (c .if2 .left))
 
 least-requires : tie.Need-least-requires Inv-loop μ-loop
-least-requires c κs = (grown-kind (c .before .before .before .before .before .before .before .before .before .before .before .before .before .before .before .before .pre .0) (c .before .before .before .before .before .before .before .before .loop-test .taken) (c .before .before .before .before .before .before .wide .ensures) (c .before .before .before .before .before .before .before .before .before .loop .inv .1) (c .before .before .before .before .before .size .ensures) (c .before .before .before .before .if1 .taken), grown-least (c .before .before .before .before .before .before .before .before .before .before .before .before .before .before .before .before .pre .0) (c .before .before .before .before .before .before .before .before .loop-test .taken) (c .before .before .before .before .before .before .wide .ensures) (c .before .before .before .before .before .before .before .before .before .loop .inv .1) (c .before .before .before .before .before .size .ensures) (c .before .before .before .before .if1 .taken) (c .before .gate-breaks .ensures) (c .if2 .left))
+least-requires c κs = (grown-kind (c .before .before .before .before .before .before .before .before .before .before .before .before .before .before .before .before .before .pre .0) (c .before .before .before .before .before .before .before .before .before .loop-test .taken) (c .before .before .before .before .before .before .before .wide .ensures) (c .before .before .before .before .before .before .before .before .before .before .loop .inv .1) (c .before .before .before .before .before .before .size .ensures) (c .before .before .before .before .before .if1 .taken), grown-least (c .before .before .before .before .before .before .before .before .before .before .before .before .before .before .before .before .before .pre .0) (c .before .before .before .before .before .before .before .before .before .loop-test .taken) (c .before .before .before .before .before .before .before .wide .ensures) (c .before .before .before .before .before .before .before .before .before .before .loop .inv .1) (c .before .before .before .before .before .before .size .ensures) (c .before .before .before .before .before .if1 .taken) (c .before .before .distinct-inputs .ensures) (c .before .gate-breaks .ensures) (c .if2 .left))
 
 array-write-ls : tie.Need-array-write-ls Inv-loop μ-loop
-array-write-ls c = omega (arith, grown-few (c .before .before .before .before .before .before .before .before .before .before .before .before .before .before .before .before .before .pre .0) (c .before .before .before .before .before .before .before .before .before .loop-test .taken) (c .before .before .before .before .before .before .before .wide .ensures) (c .before .before .before .before .before .before .before .before .before .before .loop .inv .1) (c .before .before .before .before .before .before .size .ensures) (c .before .before .before .before .before .if1 .taken) (c .before .before .gate-breaks .ensures) (c .before .if2 .left))
+array-write-ls c = omega (arith, grown-few (c .before .before .before .before .before .before .before .before .before .before .before .before .before .before .before .before .before .before .pre .0) (c .before .before .before .before .before .before .before .before .before .before .loop-test .taken) (c .before .before .before .before .before .before .before .before .wide .ensures) (c .before .before .before .before .before .before .before .before .before .before .before .loop .inv .1) (c .before .before .before .before .before .before .before .size .ensures) (c .before .before .before .before .before .before .if1 .taken) (c .before .before .before .distinct-inputs .ensures) (c .before .before .gate-breaks .ensures) (c .before .if2 .left))
 
 cast-ns : tie.Need-cast-ns Inv-loop μ-loop
-cast-ns c = omega (arith, grown-small (c .before .before .before .before .before .before .before .before .before .before .before .before .before .before .before .before .before .pre .0) (c .before .before .before .before .before .before .before .before .before .loop-test .taken) (c .before .before .before .before .before .before .before .wide .ensures) (c .before .before .before .before .before .before .before .before .before .before .loop .inv .1) (c .before .before .before .before .before .before .size .ensures) (c .before .before .before .before .before .if1 .taken) (c .before .before .gate-breaks .ensures) (c .before .if2 .left))
+cast-ns c = omega (arith, grown-small (c .before .before .before .before .before .before .before .before .before .before .before .before .before .before .before .before .before .before .pre .0) (c .before .before .before .before .before .before .before .before .before .before .loop-test .taken) (c .before .before .before .before .before .before .before .before .wide .ensures) (c .before .before .before .before .before .before .before .before .before .before .before .loop .inv .1) (c .before .before .before .before .before .before .before .size .ensures) (c .before .before .before .before .before .before .if1 .taken) (c .before .before .before .distinct-inputs .ensures) (c .before .before .gate-breaks .ensures) (c .before .if2 .left))
 
 array-write-ns : tie.Need-array-write-ns Inv-loop μ-loop
-array-write-ns c = omega (arith, grown-few (c .before .before .before .before .before .before .before .before .before .before .before .before .before .before .before .before .before .pre .0) (c .before .before .before .before .before .before .before .before .before .loop-test .taken) (c .before .before .before .before .before .before .before .wide .ensures) (c .before .before .before .before .before .before .before .before .before .before .loop .inv .1) (c .before .before .before .before .before .before .size .ensures) (c .before .before .before .before .before .if1 .taken) (c .before .before .gate-breaks .ensures) (c .before .if2 .left))
+array-write-ns c = omega (arith, grown-few (c .before .before .before .before .before .before .before .before .before .before .before .before .before .before .before .before .before .before .pre .0) (c .before .before .before .before .before .before .before .before .before .before .loop-test .taken) (c .before .before .before .before .before .before .before .before .wide .ensures) (c .before .before .before .before .before .before .before .before .before .before .before .loop .inv .1) (c .before .before .before .before .before .before .before .size .ensures) (c .before .before .before .before .before .before .if1 .taken) (c .before .before .before .distinct-inputs .ensures) (c .before .before .gate-breaks .ensures) (c .before .if2 .left))
 
 put-inputs-requires : tie.Need-put-inputs-requires Inv-loop μ-loop
-put-inputs-requires c κs = grown-putable (c .before .before .before .before .before .before .before .before .before .before .before .before .before .before .before .before .before .before .pre .0) (c .before .before .before .before .before .before .before .before .before .before .loop-test .taken) (c .before .before .before .before .before .before .before .before .wide .ensures) (c .before .before .before .before .before .before .before .before .before .before .before .loop .inv .1) (c .before .before .before .before .before .before .before .size .ensures) (c .before .before .before .before .before .before .if1 .taken) (c .before .before .before .gate-breaks .ensures) (c .before .before .if2 .left) (c .before .before .before .before .before .before .before .before .before .before .before .before .before .before .before .before .before .before .pre .1)
+put-inputs-requires c κs = grown-putable (c .before .before .before .before .before .before .before .before .before .before .before .before .before .before .before .before .before .before .before .pre .0) (c .before .before .before .before .before .before .before .before .before .before .before .loop-test .taken) (c .before .before .before .before .before .before .before .before .before .wide .ensures) (c .before .before .before .before .before .before .before .before .before .before .before .before .loop .inv .1) (c .before .before .before .before .before .before .before .before .size .ensures) (c .before .before .before .before .before .before .before .if1 .taken) (c .before .before .before .before .distinct-inputs .ensures) (c .before .before .before .gate-breaks .ensures) (c .before .before .if2 .left) (c .before .before .before .before .before .before .before .before .before .before .before .before .before .before .before .before .before .before .before .pre .1)
 
 add-g : tie.Need-add-g Inv-loop μ-loop
-add-g c = omega (arith, grown-few (c .before .before .before .before .before .before .before .before .before .before .before .before .before .before .before .before .before .before .before .pre .0) (c .before .before .before .before .before .before .before .before .before .before .before .loop-test .taken) (c .before .before .before .before .before .before .before .before .before .wide .ensures) (c .before .before .before .before .before .before .before .before .before .before .before .before .loop .inv .1) (c .before .before .before .before .before .before .before .before .size .ensures) (c .before .before .before .before .before .before .before .if1 .taken) (c .before .before .before .before .gate-breaks .ensures) (c .before .before .before .if2 .left))
+add-g c = omega (arith, grown-few (c .before .before .before .before .before .before .before .before .before .before .before .before .before .before .before .before .before .before .before .before .pre .0) (c .before .before .before .before .before .before .before .before .before .before .before .before .loop-test .taken) (c .before .before .before .before .before .before .before .before .before .before .wide .ensures) (c .before .before .before .before .before .before .before .before .before .before .before .before .before .loop .inv .1) (c .before .before .before .before .before .before .before .before .before .size .ensures) (c .before .before .before .before .before .before .before .before .if1 .taken) (c .before .before .before .before .before .distinct-inputs .ensures) (c .before .before .before .before .gate-breaks .ensures) (c .before .before .before .if2 .left))
 
 add-used : tie.Need-add-used Inv-loop μ-loop
-add-used c = omega (arith, grown-fits (c .before .before .before .before .before .before .before .before .before .before .before .before .before .before .before .before .before .before .before .pre .0) (c .before .before .before .before .before .before .before .before .before .before .before .loop-test .taken) (c .before .before .before .before .before .before .before .before .before .wide .ensures) (c .before .before .before .before .before .before .before .before .before .before .before .before .loop .inv .1) (c .before .before .before .before .before .before .before .before .size .ensures) (c .before .before .before .before .before .before .before .if1 .taken) (c .before .before .before .before .gate-breaks .ensures) (c .before .before .before .if2 .left))
+add-used c = omega (arith, grown-fits (c .before .before .before .before .before .before .before .before .before .before .before .before .before .before .before .before .before .before .before .before .pre .0) (c .before .before .before .before .before .before .before .before .before .before .before .before .loop-test .taken) (c .before .before .before .before .before .before .before .before .before .before .wide .ensures) (c .before .before .before .before .before .before .before .before .before .before .before .before .before .loop .inv .1) (c .before .before .before .before .before .before .before .before .before .size .ensures) (c .before .before .before .before .before .before .before .before .if1 .taken) (c .before .before .before .before .before .distinct-inputs .ensures) (c .before .before .before .before .gate-breaks .ensures) (c .before .before .before .if2 .left))
 
 loop-less : tie.Need-loop-less Inv-loop μ-loop
-loop-less c = omega (arith, c .before .before .before .before .before .before .before .before .before .before .before .loop-test .taken)
+loop-less c = omega (arith, c .before .before .before .before .before .before .before .before .before .before .before .before .loop-test .taken)
 
 loop-again : tie.Need-loop-again Inv-loop μ-loop
-loop-again c = (omega (arith, c .before .before .before .before .before .before .before .before .before .before .before .loop-test .taken), grown-gate (c .before .before .before .before .before .before .before .before .before .before .before .before .before .before .before .before .before .before .before .pre .0) (c .before .before .before .before .before .before .before .before .before .before .before .loop-test .taken) (c .before .before .before .before .before .before .before .before .before .wide .ensures) (c .before .before .before .before .before .before .before .before .before .before .before .before .loop .inv .1) (c .before .before .before .before .before .before .before .before .size .ensures) (c .before .before .before .before .before .before .before .if1 .taken) (c .before .before .before .before .gate-breaks .ensures) (c .before .before .before .if2 .left) (c .before .before .least .ensures) (c .put-inputs .ensures))
+loop-again c = (omega (arith, c .before .before .before .before .before .before .before .before .before .before .before .before .loop-test .taken), grown-gate (c .before .before .before .before .before .before .before .before .before .before .before .before .before .before .before .before .before .before .before .before .pre .0) (c .before .before .before .before .before .before .before .before .before .before .before .before .loop-test .taken) (c .before .before .before .before .before .before .before .before .before .before .wide .ensures) (c .before .before .before .before .before .before .before .before .before .before .before .before .before .loop .inv .1) (c .before .before .before .before .before .before .before .before .before .size .ensures) (c .before .before .before .before .before .before .before .before .if1 .taken) (c .before .before .before .before .before .distinct-inputs .ensures) (c .before .before .before .before .gate-breaks .ensures) (c .before .before .before .if2 .left) (c .before .before .least .ensures) (c .put-inputs .ensures))
 
 loop-less-2 : tie.Need-loop-less-2 Inv-loop μ-loop
 loop-less-2 c = omega (arith, c .before .before .before .before .loop-test .taken)
@@ -114,6 +117,7 @@ plant-gates-spec =
     shared-slice-read-kind
     mul-k
     shared-slice-read-k
+    distinct-inputs-requires
     gate-breaks-requires
     refused-requires
     returns

@@ -8,7 +8,7 @@ use lib.ListN.{length}
 use Rattle.records.specs.Memory.{pad, inMemory}
 use Rattle.records.proofs.Closing.{with-verdict}
 use Rattle.records.proofs.Runs.{running-bounded, running-sound, running-close, running-refused}
-use Rattle.records.proofs.Standing.{Standing, standing-start, standing-event, standing-gate, standing-input, held-fronts}
+use Rattle.records.proofs.Standing.{Standing, standing-start, standing-event, standing-gate, standing-counted, standing-input, standing-starved, held-fronts}
 use borrow.Author.Needs.{needs}
 use Rattle.records.proofs.read.Statement.{statement}
 use Rattle.records.proofs.read.Tie as tie
@@ -89,11 +89,29 @@ element-write-t-4 c = omega (arith, running-sound (c .before .before .before .be
 past-input-requires : tie.Need-past-input-requires Inv-loop μ-loop
 past-input-requires c κs = (running-bounded (c .before .before .before .before .loop .inv .running), running-sound (c .before .before .before .before .loop .inv .running) (sym (c .before .code .given .1) ∙ c .before .before .before .next .ensures) .some)
 
+starved-requires : tie.Need-starved-requires Inv-loop μ-loop
+starved-requires c κs = rw (c .before .before .before .before .before .past-input .ensures) (standing-counted (c .before .before .before .before .before .before .before .before .before .before .loop .inv) (sym (c .before .before .before .before .before .before .before .code .given .1) ∙ c .before .before .before .before .before .before .before .before .before .next .ensures))
+
+sub-gate : tie.Need-sub-gate Inv-loop μ-loop
+sub-gate c = standing-counted (c .before .before .before .before .before .before .before .before .before .before .before .before .loop .inv) (sym (c .before .before .before .before .before .before .before .before .before .code .given .1) ∙ c .before .before .before .before .before .before .before .before .before .before .before .next .ensures) .some
+
+mul-gate : tie.Need-mul-gate Inv-loop μ-loop
+mul-gate c = omega (arith, standing-counted (c .before .before .before .before .before .before .before .before .before .before .before .before .loop .inv) (sym (c .before .before .before .before .before .before .before .before .before .code .given .1) ∙ c .before .before .before .before .before .before .before .before .before .before .before .next .ensures))
+
+array-read-gate : tie.Need-array-read-gate Inv-loop μ-loop
+array-read-gate c = omega (arith, standing-counted (c .before .before .before .before .before .before .before .before .before .before .before .before .loop .inv) (sym (c .before .before .before .before .before .before .before .before .before .code .given .1) ∙ c .before .before .before .before .before .before .before .before .before .before .before .next .ensures))
+
+refused-requires : tie.Need-refused-requires Inv-loop μ-loop
+refused-requires c κs = search needs
+
+returns : tie.Need-returns Inv-loop μ-loop
+returns c = with-verdict _ (c .refused .ensures ∙ ap inMemory (sym (standing-starved (c .before .before .before .before .before .before .before .before .before .before .before .before .before .loop .inv) (sym (c .before .before .before .before .before .before .before .before .before .before .code .given .1) ∙ c .before .before .before .before .before .before .before .before .before .before .before .before .next .ensures) (sym (rw (c .before .before .before .before .before .before .before .before .past-input .ensures) at (c .before .before .starved .ensures)) ∙ c .before .if1 .taken))))
+
 loop-less-3 : tie.Need-loop-less-3 Inv-loop μ-loop
-loop-less-3 c = rw (c .past-input .ensures) (omega (arith, running-sound (c .before .before .before .before .before .loop .inv .running) (sym (c .before .before .code .given .1) ∙ c .before .before .before .before .next .ensures)))
+loop-less-3 c = rw (c .before .before .before .before .before .before .before .past-input .ensures) (omega (arith, running-sound (c .before .before .before .before .before .before .before .before .before .before .before .before .loop .inv .running) (sym (c .before .before .before .before .before .before .before .before .before .code .given .1) ∙ c .before .before .before .before .before .before .before .before .before .before .before .next .ensures)))
 
 loop-again-3 : tie.Need-loop-again-3 Inv-loop μ-loop
-loop-again-3 c = rw (c .past-input .ensures) (standing-input (c .before .before .before .before .before .loop .inv) _ _ (sym (c .before .before .code .given .1) ∙ c .before .before .before .before .next .ensures))
+loop-again-3 c = rw (c .before .before .before .before .before .before .before .past-input .ensures) (standing-input (c .before .before .before .before .before .before .before .before .before .before .before .before .loop .inv) (sym (c .before .before .before .before .before .before .before .before .before .code .given .1) ∙ c .before .before .before .before .before .before .before .before .before .before .before .next .ensures) (sym (rw (c .before .before .before .before .before .before .before .past-input .ensures) at (c .before .starved .ensures)) ∙ c .if1 .left))
 
 enum-told : tie.Need-enum-told Inv-loop μ-loop
 enum-told c = search needs
@@ -101,17 +119,17 @@ enum-told c = search needs
 finish-requires : tie.Need-finish-requires Inv-loop μ-loop
 finish-requires c κs = let k = running-sound (c .before .before .before .loop .inv .running) (sym (c .enum-told .given .1) ∙ c .before .before .next .ensures) in let q = c .before .before .before .loop .inv .running .state in (c .before .before .before .loop .inv .running .book, held-fronts (c .before .before .before .loop .inv .held) (c .before .before .before .loop .inv .running .kept), q, rw q at (k .someGate), rw q at (k .none))
 
-returns : tie.Need-returns Inv-loop μ-loop
-returns c = with-verdict _ (c .finish .ensures (c .before .before .before .before .loop .inv .running .book) (c .before .before .before .before .loop .inv .held) (held-fronts (c .before .before .before .before .loop .inv .held) (c .before .before .before .before .loop .inv .running .kept)) (c .before .before .before .before .loop .inv .running .state) ∙ ap inMemory (sym (running-close (c .before .before .before .before .loop .inv .running) (sym (c .before .enum-told .given .1) ∙ c .before .before .before .next .ensures))))
+returns-2 : tie.Need-returns-2 Inv-loop μ-loop
+returns-2 c = with-verdict _ (c .finish .ensures (c .before .before .before .before .loop .inv .running .book) (c .before .before .before .before .loop .inv .held) (held-fronts (c .before .before .before .before .loop .inv .held) (c .before .before .before .before .loop .inv .running .kept)) (c .before .before .before .before .loop .inv .running .state) ∙ ap inMemory (sym (running-close (c .before .before .before .before .loop .inv .running) (sym (c .before .enum-told .given .1) ∙ c .before .before .before .next .ensures))))
 
 enum-known-a : tie.Need-enum-known-a Inv-loop μ-loop
 enum-known-a c = search needs
 
-refused-requires : tie.Need-refused-requires Inv-loop μ-loop
-refused-requires c κs = search needs
+refused-requires-2 : tie.Need-refused-requires-2 Inv-loop μ-loop
+refused-requires-2 c κs = search needs
 
-returns-2 : tie.Need-returns-2 Inv-loop μ-loop
-returns-2 c = with-verdict _ (c .refused .ensures ∙ ap inMemory (sym (running-refused (c .before .before .before .before .before .loop .inv .running) _ (sym (c .before .before .a .given .1) ∙ c .before .before .before .before .next .ensures))))
+returns-3 : tie.Need-returns-3 Inv-loop μ-loop
+returns-3 c = with-verdict _ (c .refused2 .ensures ∙ ap inMemory (sym (running-refused (c .before .before .before .before .before .loop .inv .running) _ (sym (c .before .before .a .given .1) ∙ c .before .before .before .before .next .ensures))))
 
 pub read-spec : {M : Type 1} → statement M
 read-spec =
@@ -142,11 +160,17 @@ read-spec =
     mul-t
     element-write-t-4
     past-input-requires
+    starved-requires
+    sub-gate
+    mul-gate
+    array-read-gate
+    refused-requires
+    returns
     loop-less-3
     loop-again-3
     enum-told
     finish-requires
-    returns
+    returns-2
     enum-known-a
-    refused-requires
-    returns-2)
+    refused-requires-2
+    returns-3)

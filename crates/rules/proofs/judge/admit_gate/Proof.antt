@@ -1,6 +1,5 @@
 -- `rules::judge::admit_gate` meets its contract.
 -- Assumes nothing.
-use mathlib.Core.Path.{sym, _∙_}
 use Prim.Native.Nat.{_+_}
 use native.Mathlib.Omega.{arith}
 use borrow.Author.Tests.{lt-ltb, le-ltb, le-leb, lt-leb, eq-eqb, ne-eqb}
@@ -26,14 +25,8 @@ add-if5 c = search needs
 returns-5 : tie.Need-returns-5
 returns-5 c = simp (le-ltb _ _ (c .before .before .before .before .before .before .if1 .left), lt-leb _ _ (c .before .before .before .before .if2 .left), ne-eqb _ _ (c .before .before .before .if3 .left), le-ltb _ _ (c .before .before .if4 .left), lt-ltb 4096 (c .before .before .before .before .before .before .before .before .args .s .inputs + c .before .before .before .before .before .before .before .before .args .n) (omega (arith, c .if5 .taken)))
 
-wrong-k-requires : tie.Need-wrong-k-requires
-wrong-k-requires c κs = search needs
-
 returns-6 : tie.Need-returns-6
-returns-6 c = simp (le-ltb _ _ (c .before .before .before .before .before .before .before .before .if1 .left), lt-leb _ _ (c .before .before .before .before .before .before .if2 .left), ne-eqb _ _ (c .before .before .before .before .before .if3 .left), le-ltb _ _ (c .before .before .before .before .if4 .left), le-ltb 4096 (c .before .before .before .before .before .before .before .before .before .before .args .s .inputs + c .before .before .before .before .before .before .before .before .before .before .args .n) (omega (arith, c .before .before .if5 .left)), sym (c .before .wrong-k .ensures) ∙ c .if6 .taken)
-
-returns-7 : tie.Need-returns-7
-returns-7 c = simp (le-ltb _ _ (c .before .before .before .before .before .before .before .before .if1 .left), lt-leb _ _ (c .before .before .before .before .before .before .if2 .left), ne-eqb _ _ (c .before .before .before .before .before .if3 .left), le-ltb _ _ (c .before .before .before .before .if4 .left), le-ltb 4096 (c .before .before .before .before .before .before .before .before .before .before .args .s .inputs + c .before .before .before .before .before .before .before .before .before .before .args .n) (omega (arith, c .before .before .if5 .left)), sym (c .before .wrong-k .ensures) ∙ c .if6 .left)
+returns-6 c = simp (le-ltb _ _ (c .before .before .before .before .before .before .if1 .left), lt-leb _ _ (c .before .before .before .before .if2 .left), ne-eqb _ _ (c .before .before .before .if3 .left), le-ltb _ _ (c .before .before .if4 .left), le-ltb 4096 (c .before .before .before .before .before .before .before .before .args .s .inputs + c .before .before .before .before .before .before .before .before .args .n) (omega (arith, c .if5 .left)))
 
 pub admit-gate-spec : {M : Type 1} → statement M
 admit-gate-spec =
@@ -45,6 +38,4 @@ admit-gate-spec =
     returns-4
     add-if5
     returns-5
-    wrong-k-requires
-    returns-6
-    returns-7)
+    returns-6)

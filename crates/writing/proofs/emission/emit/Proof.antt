@@ -93,7 +93,7 @@ loop-less-3 : tie.Need-loop-less-3 Inv-loop μ-loop
 loop-less-3 c = rw (c .past-input .ensures) (omega (arith, emit-sound (c .before .before .before .before .before .before .before .before .before .before .before .before .before .before .before .before .before .before .loop .inv) (next-is (c .before .before .before .before .before .before .before .before .before .before .before .before .before .before .before .before .before .before .loop .inv .following) (c .before .before .before .before .before .before .before .before .before .before .before .before .before .before .before .before .before .within .ensures) (c .before .before .before .before .before .before .before .before .before .before .tree-record .ensures .0)) (c .before .before .before .before .before .before .before .before .before .before .tree-record .ensures .1) (c .before .before .before .before .before .before .before .before .put .ensures) (sym (c .before .before .after2 .given .1) ∙ (rw (c .before .before .before .before .before .width .ensures) at (c .before .before .before .before .admit .ensures)))))
 
 loop-again-3 : tie.Need-loop-again-3 Inv-loop μ-loop
-loop-again-3 c = rw (c .past-input .ensures) (emit-input (c .before .before .before .before .before .before .before .before .before .before .before .before .before .before .before .before .before .before .loop .inv) (next-is (c .before .before .before .before .before .before .before .before .before .before .before .before .before .before .before .before .before .before .loop .inv .following) (c .before .before .before .before .before .before .before .before .before .before .before .before .before .before .before .before .before .within .ensures) (c .before .before .before .before .before .before .before .before .before .before .tree-record .ensures .0)) (c .before .before .before .before .before .before .before .before .before .before .tree-record .ensures .1) (c .before .before .before .before .before .before .before .before .put .ensures) _ _ (sym (c .before .before .after2 .given .1) ∙ (rw (c .before .before .before .before .before .width .ensures) at (c .before .before .before .before .admit .ensures))))
+loop-again-3 c = rw (c .past-input .ensures) (emit-input (c .before .before .before .before .before .before .before .before .before .before .before .before .before .before .before .before .before .before .loop .inv) (next-is (c .before .before .before .before .before .before .before .before .before .before .before .before .before .before .before .before .before .before .loop .inv .following) (c .before .before .before .before .before .before .before .before .before .before .before .before .before .before .before .before .before .within .ensures) (c .before .before .before .before .before .before .before .before .before .before .tree-record .ensures .0)) (c .before .before .before .before .before .before .before .before .before .before .tree-record .ensures .1) (c .before .before .before .before .before .before .before .before .put .ensures) (c .before .before .before .before .before .before .before .before .before .before .before .before .before .before .before .before .before .before .before .before .before .pre .0) _ _ (sym (c .before .before .after2 .given .1) ∙ (rw (c .before .before .before .before .before .width .ensures) at (c .before .before .before .before .admit .ensures))))
 
 enum-told : tie.Need-enum-told Inv-loop μ-loop
 enum-told c = search needs

@@ -1,0 +1,2 @@
+-- The distinct inputs of a gate in memory.
+pub mod Distinct
