@@ -47,24 +47,34 @@ static inline u32 event_of(const u32 *triples, u32 node) { return triples[3 * (u
 static inline u32 failed_of(const u32 *triples, u32 node) { return triples[3 * (u64)node - 5]; }
 static inline u32 sound_of(const u32 *triples, u32 node) { return triples[3 * (u64)node - 4]; }
 
-/* The library's hash: multiply and take the high part, never a remainder by a variable. */
-static inline u32 slot(u32 a, u32 b, u32 c, u32 slots)
+#ifndef SEARCHED
+#define SEARCHED(s, event, failed, sound, node) ((void)0)
+#endif
+
+/* The library's mixing, and a number of 32 bits scaled to so many places: never a remainder by a variable. */
+static inline u32 mix(u32 a, u32 b, u32 c) { return a * 906908087u + b * 1641373853u + c * 2345438705u; }
+static inline u32 scaled(u32 y, u32 places) { return (u32)(((u64)y * places) >> 32); }
+
+static inline u32 first_slot(u32 event, u32 failed, u32 sound, u32 slots)
 {
-    u32 mixed = a * 906908087u + b * 1641373853u + c * 2345438705u;
-    return (u32)(((u64)mixed * slots) >> 32);
+    return scaled(mix(event, failed, sound) * mix(0, failed, sound), slots);
 }
 
 static inline u32 find_or_add(Store *s, u32 event, u32 failed, u32 sound)
 {
-    u32 h = slot(event, failed, sound, s->slots);
+    u32 h = first_slot(event, failed, sound, s->slots);
     COUNT(finds);
     for (u32 node = s->heads[h]; node != 0; node = s->next[(u64)node - 2]) {
         COUNT(links);
         const u32 *triple = s->triples + 3 * (u64)node - 6;
-        if (triple[0] == event && triple[1] == failed && triple[2] == sound) return node;
+        if (triple[0] == event && triple[1] == failed && triple[2] == sound) {
+            SEARCHED(s, event, failed, sound, node);
+            return node;
+        }
     }
     u32 count = s->count;
     if (count == s->capacity) return FULL;
+    SEARCHED(s, event, failed, sound, 0);
     u32 *triple = s->triples + 3 * (u64)count;
     triple[0] = event;
     triple[1] = failed;
@@ -78,7 +88,7 @@ static inline u32 find_or_add(Store *s, u32 event, u32 failed, u32 sound)
 /* Answers the memo's result, or FULL for "unknown" with the place where the result belongs. */
 static inline u32 remembered(const Store *s, u32 operation, u32 f, u32 g, u32 *place)
 {
-    *place = slot(operation, f, g, s->places);
+    *place = scaled(mix(operation, f, g), s->places);
     const u32 *q = s->memo + 4 * (u64)*place;
     COUNT(questions);
     if (q[0] == operation && q[1] == f && q[2] == g) {

@@ -15,7 +15,7 @@ mix e f s = (e * 906908087 % 4294967296 + f * 1641373853 % 4294967296 + s * 2345
 
 -- the slot, of so many, at which the search for a triple begins
 unfoldable pub firstSlot : ℕ → ℕ → ℕ → ℕ → ℕ
-firstSlot e f s slots = mix e f s * (slots % 4294967296) / 4294967296
+firstSlot e f s slots = mix e f s * mix 0 f s % 4294967296 * (slots % 4294967296) / 4294967296
 
 -- what the function that chooses the first slot answers
 pub record First (e f s slots r : ℕ) : Type 0 where

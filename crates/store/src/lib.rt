@@ -43,12 +43,14 @@ fn mixed(e: u32, failed: u32, sound: u32) -> u64
     (x + c * 2345438705 % 4294967296) % 4294967296
 }
 
-// Where the search for a triple begins: its three numbers mixed, and those scaled to the slots. However many slots there are, the product fits 64 bits.
+// Where the search for a triple begins: what its three numbers mix to, times what they mix to at event 0, scaled to the slots. A product, since
+// a sum alone keeps nodes that lie on a line on a line of slots. However many slots there are, the products fit 64 bits.
 pub fn first_slot(e: u32, failed: u32, sound: u32, slots: usize) -> usize
     requires { ⌜ 1 ≤ slots ⌝ }
     ensures { λ r. ⌜ First e failed sound slots r ⌝ }
 {
-    let y = mixed(e, failed, sound);
+    let x = mixed(e, failed, sound);
+    let y = x * mixed(0, failed, sound) % 4294967296;
     let few = slots as u64 % 4294967296;
     (y * few / 4294967296) as usize
 }
