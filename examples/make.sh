@@ -6,7 +6,7 @@ set -e
 cd "$(dirname "$0")"
 cargo build --release --offline --quiet -j1 --manifest-path ../tests/second/Cargo.toml
 second=../tests/second/target/release/second
-for tree in case1 corridor european1; do
+for tree in case1 case6 corridor european1; do
     $second equations $tree.txt > $tree.tree
     $second names $tree.txt > $tree.names
     $second program $tree.tree > $tree.out

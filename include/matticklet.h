@@ -42,7 +42,8 @@ enum {
     MATTICKLET_LEFT_TWICE = 16,  /* a left name twice */
     MATTICKLET_RING = 17,        /* a name that leads back to itself */
     MATTICKLET_ROOTS = 18,       /* not exactly one root */
-    MATTICKLET_TOO_MANY = 19     /* more than 2^64 - 1 cuts of one size */
+    MATTICKLET_TOO_MANY = 19,    /* more than 2^64 - 1 cuts of one size */
+    MATTICKLET_BAD_LISTING = 20  /* a listing out of order, or with a bad record */
 };
 
 /* Limits of a tree and of a table. */
@@ -253,6 +254,53 @@ void matticklet_folder(const uint8_t *bytes, size_t bytes_length, const size_t *
                        uint64_t *counts, size_t counts_length, uint64_t *less, size_t less_length,
                        uint64_t *work, size_t work_length, uint64_t *reached, size_t reached_length,
                        struct matticklet_gathered *answer);
+
+/* Two listings compared: yesterday's and today's, each the bytes that matticklet_list wrote, one room's behind the other's. A listing is good if its
+ * cuts stand in matticklet_list's order, none twice, each with its members rising and its 22 at the end; a listing of no cut is good, and so is one
+ * with a cut inside another. Each of the three calls judges both listings to the last byte before it answers: 20 with the side of the bad one, and
+ * with yesterday's where both are. No call needs memory or writes to a listing, and the time grows with the bytes. The two may overlap, or be one. */
+
+enum {
+    MATTICKLET_NEITHER = 0,
+    MATTICKLET_YESTERDAY = 1,
+    MATTICKLET_TODAY = 2
+};
+
+struct matticklet_side {
+    uint64_t number; /* 0 or 20 */
+    uint64_t place;  /* 0 */
+    uint64_t side;   /* done: of the first difference, MATTICKLET_NEITHER where the listings are equal; with 20 of the bad listing */
+};
+
+/* The side of the first difference: the first cut, in the order of listings, that stands in one of the two and not in the other. It is gone where the
+ * side is MATTICKLET_YESTERDAY, new where it is MATTICKLET_TODAY. */
+void matticklet_side(const uint8_t *yesterday, size_t yesterday_length, const uint8_t *today, size_t today_length,
+                     struct matticklet_side *answer);
+
+struct matticklet_difference {
+    uint64_t number; /* these three as matticklet_side answers them */
+    uint64_t place;
+    uint64_t side;
+    uint64_t offset; /* of the cut's first byte in that side's listing; 0 where the listings are equal or one is refused */
+    uint64_t length; /* of the cut with its 22; 0 where the listings are equal or one is refused */
+};
+
+/* The first difference as a stretch of the bytes that were lent. */
+void matticklet_first_difference(const uint8_t *yesterday, size_t yesterday_length, const uint8_t *today,
+                                 size_t today_length, struct matticklet_difference *answer);
+
+struct matticklet_comparison {
+    uint64_t number; /* 0 or 20 */
+    uint64_t place;  /* 0 */
+    uint64_t side;   /* with 20 of the bad listing, else MATTICKLET_NEITHER */
+    uint64_t gone;   /* cuts of yesterday's listing alone; 0 in a refusal, as are those below */
+    uint64_t added;  /* of today's alone */
+    uint64_t kept;   /* of both */
+};
+
+/* Counts the cuts gone, new and kept. */
+void matticklet_compare(const uint8_t *yesterday, size_t yesterday_length, const uint8_t *today, size_t today_length,
+                        struct matticklet_comparison *answer);
 
 #ifdef __cplusplus
 }

@@ -16,6 +16,7 @@
 enum { GUARD = 72, AREAS = 24 }; /* no area is aligned beyond its need */
 enum { GUARDS_STAND = 1, CONST_AREAS_STAND = 2 };
 enum { READ = 1, WRITE = 2, ANALYSE = 3, LIST = 4, BRACKET = 5, IMPORT = 6, EXPORT = 7, SIZES = 8, FOLDER = 9 };
+enum { SIDE = 10, FIRST_DIFFERENCE = 11, COMPARE = 12 };
 enum { LISTS = 11, RING = 9 }; /* of an import, in the header's order */
 
 struct area {
@@ -275,6 +276,39 @@ static void folder_call(void)
     reply(answer, written, 12);
 }
 
+static void side_call(void)
+{
+    struct area *yesterday = area(1), *today = area(1);
+    struct area *answer = answer_area(3);
+    struct matticklet_side *a = contents(answer);
+    matticklet_side(contents(yesterday), yesterday->length, contents(today), today->length, a);
+    if (spoiled == SIDE && a->number == MATTICKLET_BAD_LISTING && a->side == MATTICKLET_YESTERDAY)
+        a->side = MATTICKLET_TODAY;
+    reply(answer, NULL, 0);
+}
+
+static void first_difference_call(void)
+{
+    struct area *yesterday = area(1), *today = area(1);
+    struct area *answer = answer_area(5);
+    struct matticklet_difference *a = contents(answer);
+    matticklet_first_difference(contents(yesterday), yesterday->length, contents(today), today->length, a);
+    if (spoiled == FIRST_DIFFERENCE && a->length > 3)
+        a->length--; /* the part without its end */
+    reply(answer, NULL, 0);
+}
+
+static void compare_call(void)
+{
+    struct area *yesterday = area(1), *today = area(1);
+    struct area *answer = answer_area(6);
+    struct matticklet_comparison *a = contents(answer);
+    matticklet_compare(contents(yesterday), yesterday->length, contents(today), today->length, a);
+    if (spoiled == COMPARE && a->kept > 2)
+        ((uint8_t *)contents(today))[today->length - 1] ^= 1; /* a listing is only lent to be read */
+    reply(answer, NULL, 0);
+}
+
 int main(int words, char **word)
 {
     uint64_t call;
@@ -293,6 +327,9 @@ int main(int words, char **word)
         case EXPORT: export_call(); break;
         case SIZES: sizes_call(); break;
         case FOLDER: folder_call(); break;
+        case SIDE: side_call(); break;
+        case FIRST_DIFFERENCE: first_difference_call(); break;
+        case COMPARE: compare_call(); break;
         default: fail("no such call");
         }
         if (fflush(stdout) != 0)

@@ -3,7 +3,7 @@
 use mathlib.Core.Path.{_≡_, refl, sym, ap, ap₂, _∙_, subst}
 use mathlib.Core.Logic.{_≢_, _⊎_, inl, inr, ite}
 use mathlib.Core.Bool.{Bool, true, false, cond, true≢false, false≢true}
-use mathlib.Core.List.{List, [], _∷_, _++_, map, head-eq-of-cons-eq, tail-eq-of-cons-eq}
+use mathlib.Core.List.{List, [], _∷_, _++_, map, append-assoc, head-eq-of-cons-eq, tail-eq-of-cons-eq}
 use Prim.Native.Nat.{suc, _-_, _≤_, suc-le-suc}
 use native.Mathlib.Nat.{le-antisymm}
 use native.Mathlib.Omega.{arith}
@@ -167,6 +167,10 @@ module _ {A B : Type 0} (f : A → List B) where
       go r (inr k) = let (z, l, m) = r k in (z, inr l, m)
 
 -- f of A's lists is g of B's lists, mapped
+pub flat-append : {A B : Type 0} (f : A → List B) (xs ys : List A) → flat f (xs ++ ys) ≡ flat f xs ++ flat f ys
+flat-append f [] ys = refl
+flat-append f (x ∷ xs) ys = ap (f x ++_) (flat-append f xs ys) ∙ sym (append-assoc (f x) (flat f xs) (flat f ys))
+
 pub map-flat : {A B C D : Type 0} (f : A → List B) (g : C → List D) (h : B → D) (j : A → C) (xs : List A)
     → ((x : A) → In x xs → map h (f x) ≡ g (j x)) → map h (flat f xs) ≡ flat g (map j xs)
 map-flat f g h j [] e = refl

@@ -1,4 +1,6 @@
 // The product's calls for other languages: numbers, slices (a pointer, then a length) and arrays (a pointer), the answer in a lent array.
+mod listings; // two listings compared
+
 use arrays::chances_of;
 use arrays::events_of;
 use paper::EVENTS;

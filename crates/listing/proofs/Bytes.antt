@@ -11,7 +11,7 @@ use lib.ListN.{length, getD, take, drop, replicate, length-append, length-map, l
 use lib.Seq.{take-all, drop-drop, getD-append-add}
 use borrow.Rule.Slice.PartMut.{putMid, midOf, postOf, put-same}
 use Rattle.paper.specs.Lists.{keep, upTo}
-use Rattle.paper.specs.Sets.{Set, put, members}
+use Rattle.paper.specs.Sets.{Set, put, members, ofEvents}
 use Rattle.paper.specs.Listing.{memberBytes, cutBytes, setBytes}
 use Rattle.algebra.proofs.Base.{put-same as put-own, put-other}
 use Rattle.sets.specs.Words.{words, setOf, room}
@@ -20,7 +20,7 @@ use Rattle.sets.specs.Bytes.{Laid}
 use Rattle.sets.proofs.Count.{cut-length}
 use Rattle.sets.proofs.Bytes.{keep-agree}
 use Rattle.tables.specs.Table.{eventOf}
-use Rattle.walk.specs.Paths.{ofEvents, eventsOf, along, Climbs, Open, Carries}
+use Rattle.walk.specs.Paths.{eventsOf, along, Climbs, Open, Carries}
 use Rattle.walk.proofs.Paths.{climbs-weak, climbs-length, path-length}
 use Rattle.listing.specs.Bytes.{Placed, picked}
 

@@ -9,11 +9,12 @@ use lib.ListN.{length, take, drop, length-append, length-drop}
 use lib.Seq.{length-take-le}
 use Rattle.paper.specs.Limits.{limits}
 use Rattle.paper.specs.Lists.{lastOr}
-use Rattle.paper.specs.Sets.{Set, none}
+use Rattle.paper.specs.Sets.{Set, none, ofEvents}
 use Rattle.paper.specs.Listing.{memberBytes, cutBytes, setBytes, setsBytes}
+use Rattle.algebra.proofs.Lists.{flat-append}
 use Rattle.sets.specs.Words.{setOf}
 use Rattle.sets.proofs.Bytes.{joined}
-use Rattle.walk.specs.Paths.{ofEvents, eventsOf, along, around, Open, leftOf, Reached}
+use Rattle.walk.specs.Paths.{eventsOf, along, around, Open, leftOf, Reached}
 use Rattle.walk.proofs.Paths.{around-one}
 use Rattle.listing.specs.Bytes.{Placed, picked}
 use Rattle.listing.specs.Answers.{Short}
@@ -23,8 +24,7 @@ use Rattle.listing.proofs.Bytes.{path-bytes, path-size, events-length, 
 -- ---- lists of sets
 
 pub bytes-append : (n : ℕ) (p q : List Set) → setsBytes n (p ++ q) ≡ setsBytes n p ++ setsBytes n q
-bytes-append n [] q = refl
-bytes-append n (S ∷ p) q = ap (λ (x : List ℕ). setBytes n S ++ x) (bytes-append n p q) ∙ sym (append-assoc (setBytes n S) (setsBytes n p) (setsBytes n q))
+bytes-append n p q = flat-append (setBytes n) p q
 
 bytes-more : (n : ℕ) (p : List Set) (S : Set) → setsBytes n (p ++ (S ∷ [])) ≡ setsBytes n p ++ setBytes n S
 bytes-more n p S = bytes-append n p (S ∷ []) ∙ ap (λ (x : List ℕ). setsBytes n p ++ x) (append-nil (setBytes n S))

@@ -12,6 +12,8 @@ pub mod Diagrams
 pub mod Cuts
 pub mod Order
 pub mod Listing
+pub mod GoodListing
+pub mod Changes
 pub mod Chance
 pub mod Sizes
 pub mod Answers

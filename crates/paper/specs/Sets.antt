@@ -19,6 +19,11 @@ none i = false
 abbrev pub put : ℕ → Bool → Set → Set
 put e b v i = cond (eqb i e) b (v i)
 
+-- the set of some events
+unfoldable pub ofEvents : List ℕ → Set
+ofEvents [] = none
+ofEvents (e ∷ l) = put e true (ofEvents l)
+
 -- each event of T is one of S
 abbrev pub Part : Set → Set → Type 0
 Part T S = (i : ℕ) → T i ≡ true → S i ≡ true

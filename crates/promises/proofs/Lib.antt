@@ -8,8 +8,8 @@ pub mod Which
 pub mod Unseen
 pub mod Promises
 pub mod SameGates
-pub mod Telling
 pub mod Serving
 pub mod OnTables
 pub mod Delivers
 pub mod BySize
+pub mod Changed

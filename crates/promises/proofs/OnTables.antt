@@ -26,6 +26,7 @@ use Rattle.records.specs.Memory.{noEvent}
 use Rattle.records.specs.Trees.{Lawful, treeOf}
 use Rattle.records.specs.declared.Event.{Event}
 use Rattle.trees.proofs.Lawful.{tree-events}
+use Rattle.sidebyside.proofs.Telling.{bytes-tell}
 use Rattle.listing.specs.Answers.{Answered, no-diagram, beyond, short, done}
 use Rattle.listing.specs.Joined.{Joined}
 use Rattle.listing.proofs.Join.{join, join-all}
@@ -37,7 +38,6 @@ use Rattle.analysis.specs.Completing.{Sound}
 use Rattle.promises.specs.Delivers.{Own}
 use Rattle.memory.specs.declared.Analysis.{Analysis}
 use Rattle.promises.proofs.Promises.{root-function}
-use Rattle.promises.proofs.Telling.{bytes-tell}
 
 -- ---- the chances of a tree that was read
 

@@ -8,24 +8,28 @@ use Prim.Native.Nat.{ℕ, _+_, _*_, _≤_}
 use native.Mathlib.Omega.{arith}
 use lib.ListN.{length}
 use Rattle.paper.specs.Lists.{In, lastOr}
-use Rattle.paper.specs.Sets.{Set, Within, none}
+use Rattle.paper.specs.Sets.{Set, Within, none, members}
 use Rattle.paper.specs.Diagrams.{Diagram}
 use Rattle.paper.specs.Cuts.{setsOf}
 use Rattle.paper.specs.Order.{behind}
-use Rattle.paper.specs.Listing.{fitting}
+use Rattle.paper.specs.Listing.{setBytes, fitting}
 use Rattle.paper.specs.Answers.{Beyond}
 use Rattle.algebra.proofs.Lists.{in-left, keep-in}
 use Rattle.algebra.proofs.Without.{sets-beyond}
 use Rattle.sets.specs.Words.{setOf}
+use Rattle.sets.proofs.Count.{count-le, cut-length}
 use Rattle.tables.specs.Table.{den}
 use Rattle.tables.specs.Lent.{Lent}
 use Rattle.tables.proofs.Lent.{root-ordered}
 use Rattle.walk.specs.After.{toList}
 use Rattle.listing.specs.Answers.{startOf, GoodStart, Short, Answered}
 use Rattle.listing.proofs.Join.{fitting-split}
-use Rattle.promises.proofs.Telling.{set-size}
 
 -- ---- rooms that any set fits into are never too small
+
+-- a set of n events has at most 2 n + 1 bytes
+set-size : (n : ℕ) (S : Set) → length (setBytes n S) ≤ 2 * n + 1
+set-size n S = let l = cut-length (members n S) in let k = count-le S n 0 in omega arith
 
 never-short : (n size : ℕ) (l : List Set) → 2 * n + 1 ≤ size → Short n size l → ⊥
 never-short n size [] h s = s

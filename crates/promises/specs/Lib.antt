@@ -4,3 +4,4 @@ pub mod Coincide
 pub mod Delivers
 pub mod Memo
 pub mod BySize
+pub mod Changed

@@ -10,12 +10,12 @@ use native.Mathlib.Omega.{arith}
 use lib.ListN.{length, getD, take, set, replicate}
 use lib.Seq.{take-suc-set}
 use borrow.Author.Tests.{eq-eqb, ne-eqb}
-use Rattle.paper.specs.Sets.{Set, put}
+use Rattle.paper.specs.Sets.{Set, put, ofEvents}
 use Rattle.algebra.proofs.Base.{put-same, put-other}
 use Rattle.sets.specs.Words.{words, setOf, room}
 use Rattle.sets.proofs.Words.{empty-none}
 use Rattle.tables.specs.Table.{eventOf}
-use Rattle.walk.specs.Paths.{ofEvents, along, Climbs, Open, Carries}
+use Rattle.walk.specs.Paths.{along, Climbs, Open, Carries}
 use Rattle.walk.proofs.Paths.{climbs-length, room-for, here, shorter, top}
 
 -- ---- the last event of a path

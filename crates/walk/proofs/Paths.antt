@@ -9,7 +9,7 @@ use native.Mathlib.Omega.{arith}
 use lib.ListN.{length, getD, set, take, length-set}
 use lib.Seq.{take-suc, take-suc-set, length-take-le, getD-take}
 use Rattle.paper.specs.Limits.{limits, mostNumbers}
-use Rattle.paper.specs.Sets.{Set, none, put}
+use Rattle.paper.specs.Sets.{Set, none, put, ofEvents}
 use Rattle.paper.specs.Diagrams.{Ordered}
 use Rattle.paper.specs.Cuts.{setsOf}
 use Rattle.sets.specs.Words.{words, room}
@@ -17,7 +17,7 @@ use Rattle.tables.specs.Table.{eventOf, failedOf, soundOf, den}
 use Rattle.tables.specs.Lent.{Lent, Node}
 use Rattle.tables.proofs.Den.{den-0, den-1, den-node}
 use Rattle.tables.proofs.Lent.{lent-node, lent-lower, lent-ordered}
-use Rattle.walk.specs.Paths.{ofEvents, along, around, Climbs, Open}
+use Rattle.walk.specs.Paths.{along, around, Climbs, Open}
 
 -- ---- the sets left at a path
 

@@ -5,16 +5,11 @@ use mathlib.Core.Bool.{Bool, true, false}
 use mathlib.Core.List.{List, [], _∷_, _++_, map}
 use Prim.Native.Nat.{ℕ, suc, _+_, _≤_, _<_}
 use lib.ListN.{length, take}
-use Rattle.paper.specs.Sets.{Set, none, put}
+use Rattle.paper.specs.Sets.{Set, none, put, ofEvents}
 use Rattle.paper.specs.Cuts.{setsOf}
 use Rattle.sets.specs.Words.{words, setOf}
 use Rattle.tables.specs.Table.{eventOf, soundOf, den}
 use Rattle.tables.specs.Lent.{Lent}
-
--- the set of some events
-unfoldable pub ofEvents : List ℕ → Set
-ofEvents [] = none
-ofEvents (e ∷ l) = put e true (ofEvents l)
 
 -- the events of a path's nodes, and their set
 abbrev pub eventsOf : List ℕ → List ℕ → List ℕ

@@ -1,6 +1,7 @@
 //! One seeded input after another: a library's answers and its lent memory against the second program.
 
 use crate::analysis::{analyse, Analysis, Lengths};
+use crate::compare_changes::compare_pairs;
 use crate::compare_equations::{compare_texts, compare_trees};
 use crate::compare_lent::{compare_bracket, compare_list};
 use crate::compare_sizes::{compare_folders, compare_sizes};
@@ -34,7 +35,10 @@ pub fn compare_input(library: &dyn Library, seed: u64, tally: &mut Tally) {
                 compare_analysis(library, &bytes, random, tally);
             }
         }
-        4 => compare_writing(library, &tree_in_memory(random), random, tally),
+        4 => {
+            compare_writing(library, &tree_in_memory(random), random, tally);
+            compare_pairs(library, random, tally);
+        }
         5..=9 => {
             let shape = small_shape(random);
             compare_tree(library, &generator::tree(random, shape), random, tally);

@@ -3,6 +3,7 @@
 use crate::analysis::{analyse, Lengths};
 use crate::city::{self, city};
 use crate::compare::{compare_analysis_in, compare_diagram, compare_reading};
+use crate::compare_changes::{case_1, compare_listings};
 use crate::compare_equations::{compare_export, compare_import};
 use crate::compare_lent::one_listing;
 use crate::compare_sizes::compare_figures;
@@ -33,6 +34,7 @@ pub fn compare_large(library: &dyn Library, tally: &mut Tally) {
     tally.detailed = false;
     compare_long_texts(library, random, tally);
     compare_largest_diagrams(library, random, tally);
+    compare_listings(library, tally);
     tally.name = None;
 }
 
@@ -95,11 +97,7 @@ fn compare_longest_bytes(library: &dyn Library, random: &mut Random, tally: &mut
 /// Tables and work areas at the limits of their lengths, and one number beyond.
 fn compare_longest_tables(library: &dyn Library, random: &mut Random, tally: &mut Tally) {
     tally.name = Some("tables of 3,000,000 numbers");
-    let mut tree = Tree::of_chances(&[D / 10; 3]);
-    let first = and(&mut tree, &[Input::Event(0), Input::Event(1)]);
-    let second = and(&mut tree, &[Input::Event(1), Input::Event(2)]);
-    or(&mut tree, &[first, second]);
-    let bytes = write(&tree).expect("case 1 is accepted");
+    let bytes = write(&case_1()).expect("case 1 is accepted");
     let most = MOST_NUMBERS;
     for (node_table, cut_table) in
         [(most, most), (most, 12), (18, most), (most + 3, 12), (18, most + 3), (most - 1, most)]

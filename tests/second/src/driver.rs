@@ -1,6 +1,7 @@
 //! The linked library, behind the process of `tests/driver`: a call is a request over one pipe and an answer over another.
 
 use crate::arrays::Arrays;
+use crate::changes::{Comparison, Difference, Side, Verdict};
 use crate::equations::LISTS;
 use crate::lent::Lent;
 use crate::library::*;
@@ -20,6 +21,9 @@ const IMPORT: u64 = 6;
 const EXPORT: u64 = 7;
 const SIZES: u64 = 8;
 const FOLDER: u64 = 9;
+const SIDE: u64 = 10;
+const FIRST_DIFFERENCE: u64 = 11;
+const COMPARE: u64 = 12;
 
 /// What the driver says of a call when every guard and every constant area stands.
 const ALL_STANDS: u64 = 3;
@@ -156,6 +160,24 @@ impl Driver {
         let request = arrays.lend(Request::of(call).number(tree.event_count).number(tree.gate_count)).bytes(room);
         let [number, place, used] = self.ask(request, &mut [Area::Bytes(room)]);
         WriteAnswer { number: small(number), place, used }
+    }
+
+    /// A call on two listings, which writes its answer alone.
+    fn of_listings<const WORDS: usize>(&self, call: u64, yesterday: &[u8], today: &[u8]) -> [u64; WORDS] {
+        self.ask(Request::of(call).bytes(yesterday).bytes(today), &mut [])
+    }
+
+    fn verdict(&self, number: u64, place: u64, side: u64) -> Verdict {
+        let side = match side {
+            0 => Side::Neither,
+            1 => Side::Yesterday,
+            2 => Side::Today,
+            _ => {
+                self.fault.set(self.fault.get().or(Some("no such side")));
+                Side::Neither
+            }
+        };
+        Verdict { number: small(number), place, side }
     }
 
     fn exchange(&self, request: &[u8], reply: &mut [u8]) -> io::Result<()> {
@@ -309,6 +331,22 @@ impl Library for Driver {
         written.extend(counting.areas());
         let [number, place, tree] = self.ask(request, &mut written);
         FolderAnswer { number: small(number), place, tree }
+    }
+
+    fn side(&self, yesterday: &[u8], today: &[u8]) -> Verdict {
+        let [number, place, side] = self.of_listings(SIDE, yesterday, today);
+        self.verdict(number, place, side)
+    }
+
+    fn first_difference(&self, yesterday: &[u8], today: &[u8]) -> Difference {
+        let [number, place, side, offset, length] = self.of_listings(FIRST_DIFFERENCE, yesterday, today);
+        Difference { verdict: self.verdict(number, place, side), start: offset as usize, length: length as usize }
+    }
+
+    fn compare(&self, yesterday: &[u8], today: &[u8]) -> Comparison {
+        let [number, place, side, gone, new, kept] = self.of_listings(COMPARE, yesterday, today);
+        let verdict = self.verdict(number, place, side);
+        Comparison { verdict, gone: gone as usize, new: new as usize, kept: kept as usize }
     }
 
     fn fault(&self) -> Option<&'static str> {

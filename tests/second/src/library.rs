@@ -1,6 +1,7 @@
-//! What a comparison asks of an analyser: the nine public calls on plain data and lent memory.
+//! What a comparison asks of an analyser: the public calls on plain data and lent memory.
 //! A binding to a linked library implements this; so does the mirror, for trying out the comparison.
 
+use crate::changes::{Comparison, Difference, Verdict};
 use crate::equations::LISTS;
 use crate::lent::Lent;
 use crate::sets::Set;
@@ -131,6 +132,9 @@ pub trait Library {
     fn bracket(&self, diagram: &Lent, chances: &[u32], work: [&mut [u32]; 2]) -> BracketAnswer;
     fn import(&self, text: &[u8], lists: [&mut [u32]; LISTS]) -> ImportAnswer;
     fn export(&self, tree: &Tree, room: &mut [u8]) -> WriteAnswer;
+    fn side(&self, yesterday: &[u8], today: &[u8]) -> Verdict;
+    fn first_difference(&self, yesterday: &[u8], today: &[u8]) -> Difference;
+    fn compare(&self, yesterday: &[u8], today: &[u8]) -> Comparison;
 
     fn sizes(&self, diagram: &Lent, counting: CountAreas) -> SizesAnswer;
     fn folder(&self, bytes: &[u8], lengths: &[u64], areas: Areas, counting: CountAreas) -> FolderAnswer;

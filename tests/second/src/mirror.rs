@@ -3,6 +3,7 @@
 
 use crate::analysis::{analyse, Analysis, Lengths};
 use crate::bracket::bracket;
+use crate::changes::{self, Comparison, Difference, Verdict};
 use crate::equations::{export_into, import, Import, LISTS, RING, SHOWN};
 use crate::judge::{read, write_into, Refusal};
 use crate::lent::Lent;
@@ -171,5 +172,17 @@ impl Library for Mirror {
         }
         let RefusedFolder { number, place, tree } = refused.unwrap_or(RefusedFolder::whole(0));
         FolderAnswer { number, place, tree }
+    }
+
+    fn side(&self, yesterday: &[u8], today: &[u8]) -> Verdict {
+        changes::side(yesterday, today)
+    }
+
+    fn first_difference(&self, yesterday: &[u8], today: &[u8]) -> Difference {
+        changes::first_difference(yesterday, today)
+    }
+
+    fn compare(&self, yesterday: &[u8], today: &[u8]) -> Comparison {
+        changes::compare(yesterday, today)
     }
 }

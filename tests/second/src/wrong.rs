@@ -1,6 +1,7 @@
 //! Wrong programs: the mirror with one fault each. The comparison must see every one of them.
 
 use crate::analysis::analyse_over;
+use crate::changes::{Comparison, Difference, Verdict};
 use crate::cut_diagram::CutDiagram;
 use crate::equations::LISTS;
 use crate::judge::{read, write};
@@ -11,6 +12,7 @@ use crate::robdd::Robdd;
 use crate::sets::Set;
 use crate::sizes::COUNT_AREAS;
 use crate::tree::*;
+use crate::wrong_changes::{wrong_compare, wrong_difference, wrong_side};
 use crate::wrong_equations::{wrong_export, wrong_import};
 use crate::wrong_lent::{wrong_bracket, wrong_list};
 use crate::wrong_sizes::{wrong_folder, wrong_sizes};
@@ -158,6 +160,31 @@ wrongs! {
     CountingAreasStayAfterALaterTree,
     FirstTreeClears,
     EmptyFolderChangesNothing,
+    // Listings compared.
+    EndOfCutLacks,
+    Kind23Taken,
+    Kind24Passed,
+    UnknownKindsPassed,
+    MembersMayRepeat,
+    MembersMayFall,
+    CutsMayRepeat,
+    BehindTheEmptyCut,
+    OrderNotJudged,
+    SubsetsComeFirst,
+    EmptyListingRefused,
+    OneInsideAnotherRefused,
+    TodaysFaultFirst,
+    FaultBehindTheDifference,
+    FaultAtItsPlace,
+    DifferenceByPosition,
+    SideOfTheLonger,
+    PartWithoutItsEnd,
+    PartToTheEnd,
+    PartFromTheDifference,
+    PartIsTheWholeWhereEqual,
+    GoneTakenForNew,
+    KeptByPosition,
+    CountsInARefusal,
 }
 
 use Wrong::*;
@@ -266,6 +293,18 @@ impl Library for WrongProgram {
 
     fn export(&self, tree: &Tree, room: &mut [u8]) -> WriteAnswer {
         wrong_export(self.0, tree, room)
+    }
+
+    fn side(&self, yesterday: &[u8], today: &[u8]) -> Verdict {
+        wrong_side(self.0, yesterday, today)
+    }
+
+    fn first_difference(&self, yesterday: &[u8], today: &[u8]) -> Difference {
+        wrong_difference(self.0, yesterday, today)
+    }
+
+    fn compare(&self, yesterday: &[u8], today: &[u8]) -> Comparison {
+        wrong_compare(self.0, yesterday, today)
     }
 
     fn sizes(&self, diagram: &Lent, counting: CountAreas) -> SizesAnswer {

@@ -34,6 +34,9 @@ fn the_mirror_passes() {
     assert_eq!(numbers("export"), [0, 2, 4, 5, 6, 7, 8, 9]);
     assert_eq!(numbers("sizes"), [0, 9, 12, 19]);
     assert_eq!(numbers("folder"), [0, 1, 2, 3, 4, 5, 6, 7, 8, 9, 10, 11, 19]);
+    for call in ["side", "first difference", "compare"] {
+        assert_eq!(numbers(call), [0, 20]);
+    }
 }
 
 /// The cases of request 3 by themselves tell every wrong program about twins from the mirror, but those that write trees in memory.

@@ -1,0 +1,3 @@
+pub mod Stretches
+pub mod Once
+pub mod Amounts

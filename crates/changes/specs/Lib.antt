@@ -1,0 +1,2 @@
+-- What the comparisons answer.
+pub mod Answers

@@ -1,0 +1,12 @@
+pub mod Lt
+pub mod Coding
+pub mod Sets
+pub mod Telling
+pub mod OneCut
+pub mod TwoCuts
+pub mod Walking
+pub mod Finding
+pub mod Counting
+pub mod Merging
+pub mod Judge
+pub mod Differing
