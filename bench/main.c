@@ -143,19 +143,21 @@ int main(int words, char **word)
 
     size_t each = (nodes > cuts ? nodes : cuts) + 2, gates;
     uint32_t *heads = area(each), *next = area(each), *marks = area(each), *own = area(each);
-    uint32_t *lent_memo = area(memo), *list = area(MATTICKLET_GATES);
+    uint32_t *lent_memo = area(memo), *list = area(MATTICKLET_GATES), *added = area(MATTICKLET_GATES);
     uint32_t *lent_nodes = pages(0, 3 * nodes), *lent_cuts = pages(1, 3 * cuts);
     watch();
     struct matticklet_analysis a;
-    COUNTED(matticklet_analyse(bytes, length, lent_nodes, 3 * nodes, lent_cuts, 3 * cuts, list, MATTICKLET_GATES,
-                               lent_memo, memo, heads, each, next, each, marks, each, own, each, &a));
+    COUNTED(matticklet_analyse(bytes, length, lent_nodes, 3 * nodes, lent_cuts, 3 * cuts, list, MATTICKLET_GATES, added,
+                               MATTICKLET_GATES, lent_memo, memo, heads, each, next, each, marks, each, own, each, &a));
     CALLGRIND_DUMP_STATS_AT("cuts");
     if (a.number) {
         printf("refused %llu at %llu\n", (number)a.number, (number)a.place);
         return 0;
     }
     size_t events = chances_of(bytes, chances, &gates);
-    printf("events %zu\ngates %zu\nnodes %llu\ncut nodes %llu\n", events, gates, (number)a.nodes, (number)a.cut_nodes);
+    printf("events %zu\ngates %zu\nnodes %llu\nadded", events, gates, (number)a.nodes);
+    for (size_t g = 0; g < gates; g++) printf(" %llu", (number)added[g]);
+    printf("\ncut nodes %llu\n", (number)a.cut_nodes);
     list_all(&a, events, room, most);
     struct matticklet_ends e;
     COUNTED(matticklet_bracket(lent_nodes, 3 * nodes, events, a.nodes, a.root, chances, events, marks, each, own, each, &e));

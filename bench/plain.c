@@ -190,15 +190,20 @@ static u32 gate_node(Store *s, const u32 *gates, u32 kind, u32 k, u32 n, const u
 
 static inline void clear(u32 *area, size_t length) { memset(area, 0, 4 * length); }
 
-/* Gate by gate; answers the root's node. */
-static u32 build(const Tree *tree, Store *s, u32 *gates)
+/* Gate by gate, with the nodes that each adds; answers the root's node, and at `gate` the one that fills the table. */
+static u32 build(const Tree *tree, Store *s, u32 *gates, u32 *added, u64 *gate)
 {
     const uint16_t *input = tree->input;
     u32 node = FULL;
     for (u32 g = 0; g < tree->gates; g++) {
+        u32 before = s->count;
         node = gate_node(s, gates, tree->kind[g], tree->k[g], tree->n[g], input);
-        if (node == FULL) return FULL;
+        if (node == FULL) {
+            *gate = g;
+            return FULL;
+        }
         gates[g] = node;
+        added[g] = s->count - before;
         input += tree->n[g];
     }
     return node;
@@ -276,11 +281,12 @@ static void decode(const uint8_t *b, Tree *tree)
 }
 
 void matticklet_analyse(const uint8_t *bytes, size_t bytes_length, u32 *nodes, size_t nodes_length, u32 *cuts,
-                        size_t cuts_length, u32 *gates, size_t gates_length, u32 *memo, size_t memo_length, u32 *heads,
-                        size_t heads_length, u32 *next, size_t next_length, u32 *marks, size_t marks_length, u32 *own,
-                        size_t own_length, struct matticklet_analysis *answer)
+                        size_t cuts_length, u32 *gates, size_t gates_length, u32 *added, size_t added_length, u32 *memo,
+                        size_t memo_length, u32 *heads, size_t heads_length, u32 *next, size_t next_length, u32 *marks,
+                        size_t marks_length, u32 *own, size_t own_length, struct matticklet_analysis *answer)
 {
     Tree tree;
+    u64 gate = 0;
     (void)bytes_length;
     *answer = (struct matticklet_analysis){0};
     decode(bytes, &tree);
@@ -289,10 +295,11 @@ void matticklet_analyse(const uint8_t *bytes, size_t bytes_length, u32 *nodes, s
     clear(heads, heads_length);
     clear(memo, memo_length);
     clear(gates, gates_length);
+    clear(added, added_length);
     u32 one[4] = {0}; /* a memo of no place gives way to one of a single place */
     Store s = {nodes, heads, next, memo, 0, (u32)(nodes_length / 3), (u32)heads_length, (u32)(memo_length / 4), NULL};
     if (s.places == 0) s.memo = one, s.places = 1;
-    u32 root = build(&tree, &s, gates);
+    u32 root = build(&tree, &s, gates, added, &gate);
 
     u32 count = s.count, cut_root = FULL;
     clear(cuts, cuts_length);
@@ -318,7 +325,8 @@ void matticklet_analyse(const uint8_t *bytes, size_t bytes_length, u32 *nodes, s
         clear(nodes, nodes_length);
         clear(cuts, cuts_length);
         clear(gates, gates_length);
-        *answer = (struct matticklet_analysis){.number = root == FULL ? 10 : 11};
+        clear(added, added_length);
+        *answer = (struct matticklet_analysis){.number = root == FULL ? 10 : 11, .place = gate};
         return;
     }
     answer->nodes = count;

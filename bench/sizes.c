@@ -129,11 +129,11 @@ int main(int words, char **word)
     size_t length = file ? fread(bytes, 1, sizeof bytes, file) : 0, nodes = strtoull(word[2], 0, 10), each = nodes + 2, events = 0;
     if (!length) return 2;
     fclose(file);
-    u32 *table = memory(12 * nodes), *cuts = memory(12 * nodes), *gates = memory(4 * MATTICKLET_GATES), *memo = memory(4 * MEMO);
-    u32 *heads = memory(4 * each), *next = memory(4 * each), *marks = memory(4 * each), *own = memory(4 * each);
+    u32 *table = memory(12 * nodes), *cuts = memory(12 * nodes), *gates = memory(4 * MATTICKLET_GATES), *added = memory(4 * MATTICKLET_GATES);
+    u32 *memo = memory(4 * MEMO), *heads = memory(4 * each), *next = memory(4 * each), *marks = memory(4 * each), *own = memory(4 * each);
     struct matticklet_analysis a;
-    matticklet_analyse(bytes, length, table, 3 * nodes, cuts, 3 * nodes, gates, MATTICKLET_GATES, memo, MEMO, heads, each, next, each,
-                       marks, each, own, each, &a);
+    matticklet_analyse(bytes, length, table, 3 * nodes, cuts, 3 * nodes, gates, MATTICKLET_GATES, added, MATTICKLET_GATES, memo, MEMO,
+                       heads, each, next, each, marks, each, own, each, &a);
     if (a.number) return 3;
     for (size_t i = 0; bytes[i] == 1; i += 5) events++;
     u64 *mine = memory(8 * SIZES), *theirs = memory(8 * SIZES), *less = memory(8 * each), *work = memory(8 * each), *reached = memory(8 * each);

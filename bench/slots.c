@@ -20,7 +20,7 @@ static void searched(int in_cuts, uint32_t event, uint32_t failed, uint32_t soun
 #include "plain.c"
 #undef matticklet_analyse
 
-enum { CAPACITY = 1000000, AREA = CAPACITY + 2, MEMO = 4 * CAPACITY, TABLES = 2, LENGTHS = 3 };
+enum { CAPACITY = 1000000, AREA = CAPACITY + 2, MEMO = 4 * CAPACITY, TABLES = 2, LISTS = 2, AREAS = 9, LENGTHS = 3 };
 static const u32 lengths[LENGTHS] = {1, 2, 10}; /* of the larger table, so many times */
 
 typedef struct {
@@ -137,22 +137,22 @@ static void follow(int table, u32 slots, Row *row)
 }
 
 typedef struct {
-    u32 *area[8]; /* nodes, cuts, gates; memo, heads, next, marks, own */
+    u32 *area[AREAS]; /* nodes, cuts; gates, added; memo, heads, next, marks, own */
     struct matticklet_analysis answer;
 } Analysis;
 
 static Analysis of_tree(const char *file, int plain)
 {
     static uint8_t bytes[MATTICKLET_TREE_BYTES + 1];
-    static const size_t of[8] = {3 * CAPACITY, 3 * CAPACITY, MATTICKLET_GATES, MEMO, AREA, AREA, AREA, AREA};
+    static const size_t of[AREAS] = {3 * CAPACITY, 3 * CAPACITY, MATTICKLET_GATES, MATTICKLET_GATES, MEMO, AREA, AREA, AREA, AREA};
     FILE *opened = fopen(file, "rb");
     size_t length = opened ? fread(bytes, 1, sizeof bytes, opened) : 0;
     if (!length || fclose(opened)) exit(2);
     Analysis a;
-    for (int i = 0; i < 8; i++) a.area[i] = lent(4 * of[i]);
+    for (int i = 0; i < AREAS; i++) a.area[i] = lent(4 * of[i]);
     u32 **m = a.area;
     (plain ? plain_analyse : matticklet_analyse)(bytes, length, m[0], of[0], m[1], of[1], m[2], of[2], m[3], of[3], m[4], of[4], m[5],
-                                                 of[5], m[6], of[6], m[7], of[7], &a.answer);
+                                                 of[5], m[6], of[6], m[7], of[7], m[8], of[8], &a.answer);
     return a;
 }
 
@@ -161,13 +161,14 @@ static void search_in(const char *file)
 {
     asked[0].count = asked[1].count = 0;
     Analysis plain = of_tree(file, 1), library = of_tree(file, 0);
-    int same = !memcmp(&plain.answer, &library.answer, sizeof plain.answer) && !memcmp(plain.area[2], library.area[2], 4 * MATTICKLET_GATES);
+    int same = !memcmp(&plain.answer, &library.answer, sizeof plain.answer);
     for (int table = 0; table < TABLES; table++) same &= !memcmp(plain.area[table], library.area[table], 12 * CAPACITY);
+    for (int list = TABLES; list < TABLES + LISTS; list++) same &= !memcmp(plain.area[list], library.area[list], 4 * MATTICKLET_GATES);
     if (plain.answer.number || !same) {
         printf("%s: %s\n", file, same ? "refused" : "the plain program's tables are not the library's");
         exit(1);
     }
-    for (int i = 0; i < 8; i++) free(plain.area[i]), free(library.area[i]);
+    for (int i = 0; i < AREAS; i++) free(plain.area[i]), free(library.area[i]);
 }
 
 static void print_probes(const char *name, int table, u32 slots, const Row *row)

@@ -33,7 +33,7 @@ enum {
     MATTICKLET_CHANCE = 7,       /* a chance above 1,000,000,000 */
     MATTICKLET_UNUSED = 8,       /* an unused event, or an unused gate that is not the root */
     MATTICKLET_LENGTH = 9,       /* a lent length breaks its rule, or the room is shorter than a written tree */
-    MATTICKLET_NODES_FULL = 10,
+    MATTICKLET_NODES_FULL = 10,  /* its place is the number of the gate being built */
     MATTICKLET_CUTS_FULL = 11,
     MATTICKLET_NO_DIAGRAM = 12,
     MATTICKLET_BEYOND = 13,      /* a set names an event beyond the number of events */
@@ -105,7 +105,7 @@ void matticklet_write(size_t events, size_t gates, const uint32_t chances[MATTIC
 
 struct matticklet_analysis {
     uint64_t number;    /* 0 to 11 */
-    uint64_t place;     /* of 1 to 8; else 0 */
+    uint64_t place;     /* of 1 to 8; of 10 the number of the gate being built; else 0 */
     uint64_t nodes;     /* nodes stored; 0 in a refusal, as are those below */
     uint64_t cut_nodes;
     uint64_t root;      /* the last gate's node */
@@ -114,20 +114,26 @@ struct matticklet_analysis {
 
 /* Analyses a tree: 1 to 8, then 9, then 10, then 11. Lengths, otherwise 9:
  *   nodes, cuts               a multiple of 3, at most MATTICKLET_TABLE_NUMBERS
- *   gates                     at least the tree's number of gates
+ *   gates, added              each at least the tree's number of gates
  *   memo                      a multiple of 4, also 0
  *   heads, next, marks, own   each at least the larger capacity of the two tables, plus 2
  * 1 to 9 change nothing; 10 and 11 leave zero in all that was lent, to the last number. Done: nodes holds the diagram of all gates, cuts that
- * of the root's minimal cuts, gates the node of each gate, each with zeros behind; memo and work areas are zero.
+ * of the root's minimal cuts, gates the node of each gate, added how many nodes each gate added, each with zeros behind; memo and work areas
+ * are zero.
+ *
+ * added[g] is the number of nodes that gates 0 to g need, less the number that the gates before g need: events that are first used there are counted,
+ * nodes that are there already are not, and the sum is `nodes`. The place of 10 is the gate that fills the table: the least g for which gates 0 to g
+ * need more nodes than the table has room for.
  *
  * Which lengths to choose: no answer depends on the memo, but the time does. Four numbers for each node that the tree needs are best, or half as
  * many; longer ones cost their clearing. A memo of 0 is allowed and can take time exponential in the tree: it is for proofs, not for use. All
  * that is lent is cleared, to the last number, so lend tables that fit the tree, not the largest allowed. */
 void matticklet_analyse(const uint8_t *bytes, size_t bytes_length, uint32_t *nodes, size_t nodes_length,
                         uint32_t *cuts, size_t cuts_length, uint32_t *gates, size_t gates_length,
-                        uint32_t *memo, size_t memo_length, uint32_t *heads, size_t heads_length,
-                        uint32_t *next, size_t next_length, uint32_t *marks, size_t marks_length,
-                        uint32_t *own, size_t own_length, struct matticklet_analysis *answer);
+                        uint32_t *added, size_t added_length, uint32_t *memo, size_t memo_length,
+                        uint32_t *heads, size_t heads_length, uint32_t *next, size_t next_length,
+                        uint32_t *marks, size_t marks_length, uint32_t *own, size_t own_length,
+                        struct matticklet_analysis *answer);
 
 struct matticklet_listing {
     uint64_t number;   /* 0, 12, 13 or 14 */
@@ -235,17 +241,18 @@ void matticklet_sizes(const uint32_t *cuts, size_t cuts_length, size_t events, s
 
 struct matticklet_gathered {
     uint64_t number; /* 0 to 11, or 19 */
-    uint64_t place;  /* of 1 to 8, in the bytes of the refused tree; else 0 */
+    uint64_t place;  /* of 1 to 8, in the bytes of the refused tree; of 10 the number of its gate; else 0 */
     uint64_t tree;   /* index of the refused tree; 0 with every other answer */
 };
 
 /* Counts the cuts of all trees of a folder by size. The trees' bytes stand one behind the other in `bytes`, tree i has lengths[i] of them. First 9: more
  * than MATTICKLET_TREES trees, lengths whose sum is not bytes_length, counts shorter than MATTICKLET_SIZES, or less, work or reached shorter than
- * the cut table's capacity, plus 2. Then tree by tree, each analysed in the same lent memory as matticklet_analyse would: the first refused tree
- * refuses the whole with its own number, 1 to 11, its place and its index. 19 only after the last tree, exactly when the cuts of one size are more
- * than 2^64 - 1 in all trees together. Done: counts[k] is the number of cuts with k members of all trees together, what lies behind stays as it
- * was; no tree at all is done with zeros. Every refusal leaves counts as they were. All else that is lent to be written stays as it was where the
- * first 9, or the first tree's 1 to 9, is the answer, and is zero to the last number after every other answer. */
+ * the cut table's capacity, plus 2. Then tree by tree, each analysed in the same lent memory as matticklet_analyse would, only that the nodes that each
+ * gate added are not told: the first refused tree refuses the whole with its own number, 1 to 11, its place and its index. 19 only after the last
+ * tree, exactly when the cuts of one size are more than 2^64 - 1 in all trees together. Done: counts[k] is the number of cuts with k members of all
+ * trees together, what lies behind stays as it was; no tree at all is done with zeros. Every refusal leaves counts as they were. All else that is lent
+ * to be written stays as it was where the first 9, or the first tree's 1 to 9, is the answer, and is zero to the last number after every other
+ * answer. */
 void matticklet_folder(const uint8_t *bytes, size_t bytes_length, const size_t *lengths, size_t lengths_length,
                        uint32_t *nodes, size_t nodes_length, uint32_t *cuts, size_t cuts_length,
                        uint32_t *gates, size_t gates_length, uint32_t *memo, size_t memo_length,

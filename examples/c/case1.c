@@ -17,7 +17,7 @@ static const uint8_t tree[] = {
     0x07
 };
 
-static uint32_t nodes[3 * NODES], cuts[3 * CUTS], gates[MATTICKLET_GATES], memo[MEMO];
+static uint32_t nodes[3 * NODES], cuts[3 * CUTS], gates[MATTICKLET_GATES], added[MATTICKLET_GATES], memo[MEMO];
 static uint32_t heads[AREA], next[AREA], marks[AREA], own[AREA];
 static uint32_t chances[MATTICKLET_EVENTS];
 static uint8_t kinds[MATTICKLET_GATES], leasts[MATTICKLET_GATES], sizes[MATTICKLET_GATES];
@@ -42,8 +42,8 @@ int main(void)
     struct matticklet_reading reading;
     matticklet_read(tree, sizeof tree, &reading, chances, kinds, leasts, sizes, inputs);
     struct matticklet_analysis a;
-    matticklet_analyse(tree, sizeof tree, nodes, 3 * NODES, cuts, 3 * CUTS, gates, MATTICKLET_GATES, memo, MEMO,
-                       heads, AREA, next, AREA, marks, AREA, own, AREA, &a);
+    matticklet_analyse(tree, sizeof tree, nodes, 3 * NODES, cuts, 3 * CUTS, gates, MATTICKLET_GATES, added, MATTICKLET_GATES,
+                       memo, MEMO, heads, AREA, next, AREA, marks, AREA, own, AREA, &a);
     if (reading.number != MATTICKLET_DONE || a.number != MATTICKLET_DONE) {
         printf("refused %" PRIu64 " at %" PRIu64 "\n", a.number, a.place);
         return 1;

@@ -8,7 +8,7 @@
 enum { NODES = 65536, AREA = NODES + 2, MEMO = 4 * NODES, ROOM = 1 << 24 };
 
 static uint8_t rooms[2][ROOM];
-static uint32_t nodes[3 * NODES], cuts[3 * NODES], gates[MATTICKLET_GATES], memo[MEMO];
+static uint32_t nodes[3 * NODES], cuts[3 * NODES], gates[MATTICKLET_GATES], added[MATTICKLET_GATES], memo[MEMO];
 static uint32_t heads[AREA], next[AREA], marks[AREA], own[AREA];
 
 /* Lists the cuts of the tree in a file: how many bytes, or -1. */
@@ -23,8 +23,8 @@ static int64_t list_file(const char *name, uint8_t *room)
     size_t length = fread(tree, 1, sizeof tree, file);
     fclose(file);
     struct matticklet_analysis a;
-    matticklet_analyse(tree, length, nodes, 3 * NODES, cuts, 3 * NODES, gates, MATTICKLET_GATES, memo, MEMO, heads, AREA, next,
-                       AREA, marks, AREA, own, AREA, &a);
+    matticklet_analyse(tree, length, nodes, 3 * NODES, cuts, 3 * NODES, gates, MATTICKLET_GATES, added, MATTICKLET_GATES, memo,
+                       MEMO, heads, AREA, next, AREA, marks, AREA, own, AREA, &a);
     if (a.number != MATTICKLET_DONE) {
         printf("%s: refused %" PRIu64 " at %" PRIu64 "\n", name, a.number, a.place);
         return -1;

@@ -1,4 +1,5 @@
-/* Typed equations from C: a text on standard input is imported, its tree analysed, and its cuts printed by the names that were typed.
+/* Typed equations from C: a text on standard input is imported, its tree analysed, and its cuts printed by the names that were typed; where the nodes
+ * do not suffice, the name of the gate that filled their table.
  * cc -Iinclude examples/c/equations.c target/staticlib/libexported.a -o equations && ./equations < examples/corridor.txt */
 #include <inttypes.h>
 #include <stdio.h>
@@ -10,7 +11,7 @@ enum { TEXT = 65536, LISTS = 11, NODES = 65536, AREA = NODES + 2, MEMO = 4 * NOD
 
 static uint8_t text[TEXT], bytes[MATTICKLET_TREE_BYTES], room[ROOM];
 static uint32_t lists[LISTS][TEXT + 1];
-static uint32_t nodes[3 * NODES], cuts[3 * NODES], gates[MATTICKLET_GATES], memo[MEMO];
+static uint32_t nodes[3 * NODES], cuts[3 * NODES], gates[MATTICKLET_GATES], added[MATTICKLET_GATES], memo[MEMO];
 static uint32_t heads[AREA], next[AREA], marks[AREA], own[AREA];
 static uint32_t chances[MATTICKLET_EVENTS];
 static uint8_t kinds[MATTICKLET_GATES], leasts[MATTICKLET_GATES], sizes[MATTICKLET_GATES];
@@ -58,6 +59,18 @@ static int refuse(const struct matticklet_import *m, const uint32_t *ring)
     return 1;
 }
 
+/* `shown` has the offset of each gate's name. */
+static int refuse_analysis(const struct matticklet_analysis *a, const uint32_t *shown)
+{
+    printf("refused %" PRIu64, a->number);
+    if (a->number == MATTICKLET_NODES_FULL) {
+        printf(": full in ");
+        print_name(shown[a->place]);
+    }
+    printf("\n");
+    return 1;
+}
+
 int main(void)
 {
     size_t length = fread(text, 1, TEXT, stdin), most = TEXT + 1;
@@ -72,12 +85,10 @@ int main(void)
     struct matticklet_writing w;
     matticklet_write(m.events, m.gates, chances, kinds, leasts, sizes, inputs, bytes, sizeof bytes, &w);
     struct matticklet_analysis a;
-    matticklet_analyse(bytes, w.bytes, nodes, 3 * NODES, cuts, 3 * NODES, gates, MATTICKLET_GATES, memo, MEMO, heads, AREA, next,
-                       AREA, marks, AREA, own, AREA, &a);
-    if (a.number != MATTICKLET_DONE) {
-        printf("refused %" PRIu64 "\n", a.number);
-        return 1;
-    }
+    matticklet_analyse(bytes, w.bytes, nodes, 3 * NODES, cuts, 3 * NODES, gates, MATTICKLET_GATES, added, MATTICKLET_GATES, memo,
+                       MEMO, heads, AREA, next, AREA, marks, AREA, own, AREA, &a);
+    if (a.number != MATTICKLET_DONE)
+        return refuse_analysis(&a, shown + m.events);
     struct matticklet_listing l = { .finished = 0 };
     uint64_t after[MATTICKLET_SET_WORDS] = { 0 };
     for (bool begin = true; !l.finished; begin = false) {

@@ -165,17 +165,18 @@ static void write_call(void)
 
 static void analyse_call(void)
 {
-    struct area *bytes = area(1), *nodes = area(4), *cuts = area(4), *gates = area(4), *memo = area(4);
+    struct area *bytes = area(1), *nodes = area(4), *cuts = area(4), *gates = area(4), *added = area(4), *memo = area(4);
     struct area *heads = area(4), *next = area(4), *marks = area(4), *own = area(4);
     struct area *answer = answer_area(6);
     struct matticklet_analysis *a = contents(answer);
     matticklet_analyse(contents(bytes), bytes->length, contents(nodes), nodes->length, contents(cuts), cuts->length,
-                       contents(gates), gates->length, contents(memo), memo->length, contents(heads), heads->length,
-                       contents(next), next->length, contents(marks), marks->length, contents(own), own->length, a);
-    if (spoiled == ANALYSE && a->number == MATTICKLET_CUTS_FULL && gates->length > 3)
-        ((uint32_t *)contents(own))[own->length - 1] = 2; /* 11 leaves a number standing */
-    struct area *written[] = { nodes, cuts, gates, memo, heads, next, marks, own };
-    reply(answer, written, 8);
+                       contents(gates), gates->length, contents(added), added->length, contents(memo), memo->length,
+                       contents(heads), heads->length, contents(next), next->length, contents(marks), marks->length,
+                       contents(own), own->length, a);
+    if (spoiled == ANALYSE && a->number == MATTICKLET_CUTS_FULL && added->length > 3)
+        ((uint32_t *)contents(added))[added->length - 1] = 2; /* 11 leaves a number standing */
+    struct area *written[] = { nodes, cuts, gates, added, memo, heads, next, marks, own };
+    reply(answer, written, 9);
 }
 
 static void list_call(void)

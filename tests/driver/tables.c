@@ -9,7 +9,7 @@
 #include <stdlib.h>
 #include <string.h>
 
-enum { AREAS = 8, DIRT = 0xA5 };
+enum { AREAS = 9, DIRT = 0xA5 };
 
 static void tell(const void *start, size_t bytes)
 {
@@ -26,7 +26,7 @@ static void analyse(const char *file, const size_t length[AREAS], uint32_t *area
     for (int i = 0; i < AREAS; i++) memset(area[i], DIRT, 4 * length[i] + 4);
     memset(&answer, DIRT, sizeof answer);
     matticklet_analyse(bytes, of_tree, area[0], length[0], area[1], length[1], area[2], length[2], area[3], length[3], area[4],
-                       length[4], area[5], length[5], area[6], length[6], area[7], length[7], &answer);
+                       length[4], area[5], length[5], area[6], length[6], area[7], length[7], area[8], length[8], &answer);
     if (spoilt) area[0][length[0] / 2] ^= 1;
     tell(&answer, sizeof answer);
     for (int i = 0; i < AREAS; i++) tell(area[i], 4 * length[i] + 4);
@@ -37,7 +37,7 @@ int main(int words, char **word)
     if (words < 5) return 2;
     size_t nodes = strtoull(word[1], 0, 10), cuts = strtoull(word[2], 0, 10), memo = strtoull(word[3], 0, 10);
     size_t each = (nodes > cuts ? nodes : cuts) + 2;
-    const size_t length[AREAS] = {3 * nodes, 3 * cuts, MATTICKLET_GATES, 4 * memo, each, each, each, each};
+    const size_t length[AREAS] = {3 * nodes, 3 * cuts, MATTICKLET_GATES, MATTICKLET_GATES, 4 * memo, each, each, each, each};
     const char *spoil = getenv("SPOIL");
     long spoilt = spoil ? atol(spoil) : 0;
     uint32_t *area[AREAS];

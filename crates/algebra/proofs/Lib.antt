@@ -17,6 +17,7 @@ pub mod Listing
 pub mod Bracket
 pub mod Depends
 pub mod Gates
+pub mod Prefixes
 pub mod Least
 pub mod Rules
 pub mod Canon

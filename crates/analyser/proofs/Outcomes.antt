@@ -76,6 +76,6 @@ module _ (bytes : List ℕ) {r : Reading} (e : r ≡ inMemory (outcome limits by
         long = subst (λ x. Lengths x m) (sym same-count) l
 
         go : Filled (treeOf (good .book)) m m′ a → Analysed bytes m m′ a
-        go (Filled.nodes-full h x y) = Analysed.nodes-full (good .book) (good .accepted) long h x y
+        go (Filled.nodes-full g h x y) = Analysed.nodes-full (good .book) g (good .accepted) long h x y
         go (Filled.nodes-fit h (CutsFilled.cuts-full i x y)) = Analysed.cuts-full (good .book) (good .accepted) long h i x y
         go (Filled.nodes-fit h (CutsFilled.done i d)) = Analysed.done (good .book) (good .accepted) long h i d

@@ -64,6 +64,7 @@ pub fn lengths_ok(
     nodes: &[u32],
     cuts: &[u32],
     gates: &[u32],
+    added: &[u32],
     memo: &[u32],
     heads: &[u32],
     next: &[u32],
@@ -71,7 +72,7 @@ pub fn lengths_ok(
     own: &[u32],
     gate_count: usize,
 ) -> bool
-    ensures { λ r. ⌜ Says r (Lengths «gate_count» (memory (now (nodes .entry)) (now (cuts .entry)) (now (gates .entry)) (now (memo .entry)) (now (heads .entry)) (now (next .entry)) (now (marks .entry)) (now (own .entry)))) ⌝ }
+    ensures { λ r. ⌜ Says r (Lengths «gate_count» (memory (now (nodes .entry)) (now (cuts .entry)) (now (gates .entry)) (now (added .entry)) (now (memo .entry)) (now (heads .entry)) (now (next .entry)) (now (marks .entry)) (now (own .entry)))) ⌝ }
 {
     if !table_ok(nodes) {
         return false;
@@ -80,6 +81,9 @@ pub fn lengths_ok(
         return false;
     }
     if gates.len() < gate_count {
+        return false;
+    }
+    if added.len() < gate_count {
         return false;
     }
     if memo.len() % 4 != 0 {

@@ -73,6 +73,7 @@ fn analyse_tree(
     nodes: &mut [u32],
     cuts: &mut [u32],
     gates: &mut [u32],
+    added: &mut [u32],
     memo: &mut [u32],
     heads: &mut [u32],
     next: &mut [u32],
@@ -80,29 +81,52 @@ fn analyse_tree(
     own: &mut [u32],
 ) -> Analysis
     requires { ⌜ WasRead tree ⌝ }
-    ensures { λ r. ⌜ Tried tree (memory (now (nodes .entry)) (now (cuts .entry)) (now (gates .entry)) (now (memo .entry)) (now (heads .entry)) (now (next .entry)) (now (marks .entry)) (now (own .entry))) (memory (now (nodes .exit)) (now (cuts .exit)) (now (gates .exit)) (now (memo .exit)) (now (heads .exit)) (now (next .exit)) (now (marks .exit)) (now (own .exit))) r ⌝ }
+    ensures { λ r. ⌜ Tried tree (memory (now (nodes .entry)) (now (cuts .entry)) (now (gates .entry)) (now (added .entry)) (now (memo .entry)) (now (heads .entry)) (now (next .entry)) (now (marks .entry)) (now (own .entry))) (memory (now (nodes .exit)) (now (cuts .exit)) (now (gates .exit)) (now (added .exit)) (now (memo .exit)) (now (heads .exit)) (now (next .exit)) (now (marks .exit)) (now (own .exit))) r ⌝ }
 {
     let count = tree.gate_count;
-    if !lengths_ok(nodes, cuts, gates, memo, heads, next, marks, own, count) {
+    if !lengths_ok(
+        nodes,
+        cuts,
+        gates,
+        added,
+        memo,
+        heads,
+        next,
+        marks,
+        own,
+        count,
+    ) {
         return memory::refused(9, 0);
     }
-    analysis::fill(tree, nodes, cuts, gates, memo, heads, next, marks, own)
+    analysis::fill(
+        tree,
+        nodes,
+        cuts,
+        gates,
+        added,
+        memo,
+        heads,
+        next,
+        marks,
+        own,
+    )
 }
 
-// Analyses a tree: its diagram in the node table, each gate's node in the gate list, its cuts in the cut table. What the lent memory
-// holds at entry does not matter.
+// Analyses a tree: its diagram in the node table, each gate's node in the gate list and how many nodes it adds in the list behind it, its cuts in
+// the cut table. What the lent memory holds at entry does not matter.
 pub fn analyse(
     bytes: &[u8],
     nodes: &mut [u32],
     cuts: &mut [u32],
     gates: &mut [u32],
+    added: &mut [u32],
     memo: &mut [u32],
     heads: &mut [u32],
     next: &mut [u32],
     marks: &mut [u32],
     own: &mut [u32],
 ) -> Analysis
-    ensures { λ r. ⌜ Analysed (now (bytes .entry)) (memory (now (nodes .entry)) (now (cuts .entry)) (now (gates .entry)) (now (memo .entry)) (now (heads .entry)) (now (next .entry)) (now (marks .entry)) (now (own .entry))) (memory (now (nodes .exit)) (now (cuts .exit)) (now (gates .exit)) (now (memo .exit)) (now (heads .exit)) (now (next .exit)) (now (marks .exit)) (now (own .exit))) r ⌝ }
+    ensures { λ r. ⌜ Analysed (now (bytes .entry)) (memory (now (nodes .entry)) (now (cuts .entry)) (now (gates .entry)) (now (added .entry)) (now (memo .entry)) (now (heads .entry)) (now (next .entry)) (now (marks .entry)) (now (own .entry))) (memory (now (nodes .exit)) (now (cuts .exit)) (now (gates .exit)) (now (added .exit)) (now (memo .exit)) (now (heads .exit)) (now (next .exit)) (now (marks .exit)) (now (own .exit))) r ⌝ }
 {
     let r = records::read(bytes);
     let a = r.answer;
@@ -111,5 +135,16 @@ pub fn analyse(
         return memory::refused(number, rules::place(a));
     }
     let tree = r.tree;
-    analyse_tree(tree, nodes, cuts, gates, memo, heads, next, marks, own)
+    analyse_tree(
+        tree,
+        nodes,
+        cuts,
+        gates,
+        added,
+        memo,
+        heads,
+        next,
+        marks,
+        own,
+    )
 }

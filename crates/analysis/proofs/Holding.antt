@@ -34,7 +34,7 @@ in-part ds E h =
     record { whole = d; member = m; part = record { inside = l; node = q } }
 
 -- THE NODE TABLE holds a node for each needed function, and no other
-pub whole-holds : (n : ℕ) (t : List Gate) → TreeBelow n t → {G T H X : List ℕ} {root c : ℕ} → Whole t G T H X root c → Holds (functionOf n T) c (needed n (stepFuns t))
+pub whole-holds : (n : ℕ) (t : List Gate) → TreeBelow n t → {G A T H X : List ℕ} {root c : ℕ} → Whole t G A T H X root c → Holds (functionOf n T) c (needed n (stepFuns t))
 whole-holds n t b {T = T} w = record {
   only = λ i l h. step-needed n t b (den T i) (part-in (stepDiagrams t) (den T i) (w .only .each i l h));
   all = λ Y h.

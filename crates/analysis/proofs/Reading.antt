@@ -72,7 +72,7 @@ pub build-areas : {n : ℕ} {m : Memory} → Lengths n m → Areas (m .nodes) (m
 build-areas l = record { small = l .node-table .short; linked = omega (arith, l .areas .next, l .node-table .threes); chains = omega (arith, l .areas .heads) }
 
 -- building speaks of the gates in the arrays, which are the tree's
-pub whole-in : (t : Tree) {G T H X : List ℕ} {root c : ℕ} → Whole (gatesOf (t .kinds) (t .leasts) 0 (take (t .«gate_count») (t .sizes)) (t .inputs)) G T H X root c → Whole (treeIn t .gates) G T H X root c
+pub whole-in : (t : Tree) {G A T H X : List ℕ} {root c : ℕ} → Whole (gatesOf (t .kinds) (t .leasts) 0 (take (t .«gate_count») (t .sizes)) (t .inputs)) G A T H X root c → Whole (treeIn t .gates) G A T H X root c
 unfolding treeIn
 whole-in t w = w
 

@@ -13,7 +13,7 @@ use Rattle.paper.specs.Answers.{CutsFull, cutNodesOf}
 use Rattle.algebra.proofs.Without.{Fit}
 use Rattle.tables.specs.Table.{den}
 use Rattle.tables.specs.Lent.{Lent}
-use Rattle.build.proofs.Needed.{count-needed}
+use Rattle.build.proofs.Needed.{count-needed, added-needed}
 use Rattle.build.proofs.Meaning.{gate-shows, root-number, whole-lent}
 use Rattle.without.specs.Reading.{Readable}
 use Rattle.cuts.specs.Cutting.{cutNodes, CutTable, Room}
@@ -63,10 +63,10 @@ module _ {t : paper.Tree} {m : Memory} {root c : ℕ} (g : Ground t m root c) wh
     pub ground-enough : CutsFull t (capacity (m .cuts)) → ⊥
     ground-enough h = let q = done-fits (events t) (den (m .nodes) root) (rootFun (t .gates)) fits shows cut in omega arith
 
-    pub ground-done : (m′ : Memory) (a : Analysis) → m′ .nodes ≡ m .nodes → m′ .gates ≡ m .gates → m′ .cuts ≡ C
+    pub ground-done : (m′ : Memory) (a : Analysis) → m′ .nodes ≡ m .nodes → m′ .gates ≡ m .gates → m′ .added ≡ m .added → m′ .cuts ≡ C
         → Zero (m .memo) (m′ .memo) → Zero (m .heads) (m′ .heads) → Zero (m .next) (m′ .next) → Zero (m .marks) (m′ .marks) → Zero (m .own) (m′ .own)
         → a .number ≡ 0 → a .place ≡ 0 → a .nodes ≡ c → a .«cut_nodes» ≡ d → a .root ≡ root → a .«cut_root» ≡ r → Done t m m′ a
-    ground-done m′ a en eg ec zm zh zx zk zo an ap′ ac ad ar aq = record {
+    ground-done m′ a en eg ea ec zm zh zx zk zo an ap′ ac ad ar aq = record {
       number = an;
       place = ap′;
       node-count = ac ∙ count-needed (events t) (t .gates) (g .sound .below) (g .whole);
@@ -82,11 +82,13 @@ module _ {t : paper.Tree} {m : Memory} {root c : ℕ} (g : Ground t m root c) wh
       nodes-long = ap length en;
       cuts-long = ap length ec ∙ long;
       gates-long = ap length eg;
+      added-long = ap length ea;
       gate-list = rw (en, eg, ac) (record {
         stored = λ i h. g .whole .gates i .within;
         shows = λ i h. gate-shows (events t) (t .gates) (g .sound .below) (g .whole) i .1;
         behind = g .whole .zeros;
       });
+      added-list = rw ea (record { each = added-needed t (g .sound .below) (g .whole .added); behind = g .whole .added .behind });
       root-is = ar ∙ g .whole .last ∙ ap (λ G. getD G (length (t .gates) - 1) 0) (sym eg);
       cuts-are = rw (ec, aq) (done-list (events t) (den (m .nodes) root) (rootFun (t .gates)) fits shows cut);
       memo = zm;
@@ -103,10 +105,10 @@ module _ {t : paper.Tree} {m : Memory} {root c : ℕ} (g : Ground t m root c) wh
   cuts-are-full z s h r = CutsFilled.cuts-full (subst (λ n. n / 3 < cutNodesOf t) (s .cuts) (ground-short g h)) r (all-zero-from s z)
 
   pub cuts-are-done : {C H X M₁ H₁ X₁ K₁ O₁ : List ℕ} {d r : ℕ} {a : Analysis} {M′ H′ X′ K′ O′ : List ℕ} → Settled M₁ H₁ X₁ K₁ O₁ M′ H′ X′ K′ O′
-      → SameLengths m (memory (m .nodes) C (m .gates) M₁ H₁ X₁ K₁ O₁) → CutTable (den (m .nodes) root) C H X d r
+      → SameLengths m (memory (m .nodes) C (m .gates) (m .added) M₁ H₁ X₁ K₁ O₁) → CutTable (den (m .nodes) root) C H X d r
       → a .number ≡ 0 → a .place ≡ 0 → a .nodes ≡ c → a .«cut_nodes» ≡ d → a .root ≡ root → a .«cut_root» ≡ r
-      → CutsFilled t m (memory (m .nodes) C (m .gates) M′ H′ X′ K′ O′) a
+      → CutsFilled t m (memory (m .nodes) C (m .gates) (m .added) M′ H′ X′ K′ O′) a
   cuts-are-done {C} {H} {X} {M₁} {H₁} {X₁} {K₁} {O₁} {d} {r} {a} {M′} {H′} {X′} {K′} {O′} z s cut an al ac ad ar aq = CutsFilled.done (ground-enough g cut (s .cuts))
-      (ground-done g cut (s .cuts) (memory (m .nodes) C (m .gates) M′ H′ X′ K′ O′) a refl refl refl
+      (ground-done g cut (s .cuts) (memory (m .nodes) C (m .gates) (m .added) M′ H′ X′ K′ O′) a refl refl refl refl
       (zero-from s (m .memo) M₁ M′ (s .memo) (z .memo)) (zero-from s (m .heads) H₁ H′ (s .heads) (z .heads)) (zero-from s (m .next) X₁ X′ (s .next) (z .next))
       (zero-from s (m .marks) K₁ K′ (s .marks) (z .marks)) (zero-from s (m .own) O₁ O′ (s .own) (z .own)) an al ac ad ar aq)

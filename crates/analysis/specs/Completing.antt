@@ -21,7 +21,7 @@ pub record Sound (t : paper.Tree) : Type 0 where
 -- such a tree, and its node table is finished, with c nodes
 pub record Ground (t : paper.Tree) (m : Memory) (root c : ℕ) : Type 0 where
   pub sound : Sound t
-  pub whole : Whole (t .gates) (m .gates) (m .nodes) (m .heads) (m .next) root c
+  pub whole : Whole (t .gates) (m .gates) (m .added) (m .nodes) (m .heads) (m .next) root c
   pub lengths : Lengths (length (t .gates)) m
 
 pub record Grounded (m : Memory) (root c : ℕ) : Type 0 where

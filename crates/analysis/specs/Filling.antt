@@ -1,9 +1,10 @@
 -- The two tables of a tree that was read: 10, 11, or done.
 -- Assumes nothing.
 use mathlib.Core.Path.{_≡_}
+use Prim.Native.Nat.{ℕ}
 use Rattle.paper.specs.Limits.{limits}
 use Rattle.paper.specs.Trees as paper
-use Rattle.paper.specs.Answers.{NodesFull}
+use Rattle.paper.specs.Answers.{NodesFull, FilledAt}
 use Rattle.records.specs.Judge.{Book}
 use Rattle.records.specs.Memory.{memory}
 use Rattle.records.specs.Trees.{Lawful}
@@ -21,5 +22,5 @@ pub record WasRead (t : Tree) : Type 0 where
 
 -- from the beginning: 10, or the node table is finished
 pub data Filled (t : paper.Tree) (m m′ : Memory) (a : Analysis) : Type 0 where
-  nodes-full : NodesFull t (capacity (m .nodes)) → Refused (at 10 0) a → AllZero m m′ → Filled t m m′ a
+  nodes-full : (g : ℕ) → FilledAt t (capacity (m .nodes)) g → Refused (at 10 g) a → AllZero m m′ → Filled t m m′ a
   nodes-fit : (NodesFull t (capacity (m .nodes)) → ⊥) → CutsFilled t m m′ a → Filled t m m′ a

@@ -13,6 +13,7 @@ fn fill_cuts(
     nodes: &mut [u32],
     cuts: &mut [u32],
     gates: &mut [u32],
+    added: &mut [u32],
     memo: &mut [u32],
     heads: &mut [u32],
     next: &mut [u32],
@@ -21,12 +22,12 @@ fn fill_cuts(
     root: u32,
     count: usize,
 ) -> Analysis
-    requires { ⌜ Grounded (memory (now nodes) (now cuts) (now gates) (now memo) (now heads) (now next) (now marks) (now own)) root count ⌝ }
-    ensures { λ r. ⌜ FillsCuts (memory (now (nodes .entry)) (now (cuts .entry)) (now (gates .entry)) (now (memo .entry)) (now (heads .entry)) (now (next .entry)) (now (marks .entry)) (now (own .entry))) root count (memory (now (nodes .exit)) (now (cuts .exit)) (now (gates .exit)) (now (memo .exit)) (now (heads .exit)) (now (next .exit)) (now (marks .exit)) (now (own .exit))) r ⌝ }
+    requires { ⌜ Grounded (memory (now nodes) (now cuts) (now gates) (now added) (now memo) (now heads) (now next) (now marks) (now own)) root count ⌝ }
+    ensures { λ r. ⌜ FillsCuts (memory (now (nodes .entry)) (now (cuts .entry)) (now (gates .entry)) (now (added .entry)) (now (memo .entry)) (now (heads .entry)) (now (next .entry)) (now (marks .entry)) (now (own .entry))) root count (memory (now (nodes .exit)) (now (cuts .exit)) (now (gates .exit)) (now (added .exit)) (now (memo .exit)) (now (heads .exit)) (now (next .exit)) (now (marks .exit)) (now (own .exit))) r ⌝ }
 {
     match cuts::build_cuts(cuts, heads, next, memo, marks, own, nodes, root as usize) {
         Built::Short(full) => {
-            memory::wipe(nodes, cuts, gates, memo, heads, next, marks, own);
+            memory::wipe(nodes, cuts, gates, added, memo, heads, next, marks, own);
             memory::refused(11, 0)
         }
         Built::Done(cut_root, cut_nodes) => {
@@ -49,6 +50,7 @@ pub fn fill(
     nodes: &mut [u32],
     cuts: &mut [u32],
     gates: &mut [u32],
+    added: &mut [u32],
     memo: &mut [u32],
     heads: &mut [u32],
     next: &mut [u32],
@@ -56,19 +58,20 @@ pub fn fill(
     own: &mut [u32],
 ) -> Analysis
     requires { ⌜ WasRead tree ⌝ }
-    requires { ⌜ Lengths (tree .«gate_count») (memory (now nodes) (now cuts) (now gates) (now memo) (now heads) (now next) (now marks) (now own)) ⌝ }
-    ensures { λ r. ⌜ Filled (treeIn tree) (memory (now (nodes .entry)) (now (cuts .entry)) (now (gates .entry)) (now (memo .entry)) (now (heads .entry)) (now (next .entry)) (now (marks .entry)) (now (own .entry))) (memory (now (nodes .exit)) (now (cuts .exit)) (now (gates .exit)) (now (memo .exit)) (now (heads .exit)) (now (next .exit)) (now (marks .exit)) (now (own .exit))) r ⌝ }
+    requires { ⌜ Lengths (tree .«gate_count») (memory (now nodes) (now cuts) (now gates) (now added) (now memo) (now heads) (now next) (now marks) (now own)) ⌝ }
+    ensures { λ r. ⌜ Filled (treeIn tree) (memory (now (nodes .entry)) (now (cuts .entry)) (now (gates .entry)) (now (added .entry)) (now (memo .entry)) (now (heads .entry)) (now (next .entry)) (now (marks .entry)) (now (own .entry))) (memory (now (nodes .exit)) (now (cuts .exit)) (now (gates .exit)) (now (added .exit)) (now (memo .exit)) (now (heads .exit)) (now (next .exit)) (now (marks .exit)) (now (own .exit))) r ⌝ }
 {
-    match build::build_tree(tree, nodes, heads, next, memo, gates) {
+    match build::build_tree(tree, nodes, heads, next, memo, gates, added) {
         Finish::Over(gate) => {
-            memory::wipe(nodes, cuts, gates, memo, heads, next, marks, own);
-            memory::refused(10, 0)
+            memory::wipe(nodes, cuts, gates, added, memo, heads, next, marks, own);
+            memory::refused(10, gate)
         }
         Finish::Complete(root, used) => {
             fill_cuts(
                 nodes,
                 cuts,
                 gates,
+                added,
                 memo,
                 heads,
                 next,

@@ -1,14 +1,13 @@
 -- The gates of a tree, one by one: the tree in memory, and what one gate more adds to the diagrams and to the steps.
 -- Assumes nothing.
 use mathlib.Core.Path.{_≡_, refl, sym, ap, ap₂, _∙_, subst}
-use mathlib.Core.Logic.{inl, inr}
 use mathlib.Core.List.{List, [], _∷_, _++_, map, append-assoc, append-nil}
 use Prim.Native.Nat.{ℕ, zero, suc, _+_, _-_, _≤_, _<_}
 use native.Mathlib.Omega.{arith}
 use native.Mathlib.Numerals.{add-one}
 use lib.ListN.{length, take, drop, getD, length-drop}
 use lib.Seq.{take-suc, drop-drop, length-take-le, getD-take, getD-drop}
-use Rattle.paper.specs.Lists.{In, sum}
+use Rattle.paper.specs.Lists.{sum}
 use Rattle.paper.specs.Limits.{limits}
 use Rattle.paper.specs.Trees.{Gate, andG}
 use Rattle.paper.specs.Steps.{valuesFrom, stepsFrom}
@@ -126,23 +125,6 @@ diagrams-next t g = values-end [] t g
 pub steps-next : (t : List Gate) (g : Gate) → stepDiagrams (t ++ (g ∷ [])) ≡ stepDiagrams t ++ stepsD (gateDiagrams t) g
 unfolding stepDiagrams gateDiagrams
 steps-next t g = steps-end [] t g
-
-in-after : (d : Diagram) (xs ys zs : List Diagram) → (In d ys → In d zs) → In d (xs ++ ys) → In d (xs ++ zs)
-in-after d [] ys zs f h = f h
-in-after d (x ∷ xs) ys zs f (inl e) = inl e
-in-after d (x ∷ xs) ys zs f (inr h) = inr (in-after d xs ys zs f h)
-
--- the steps of the first gates are steps of the tree
-front : (d : Diagram) (gs : List Diagram) (g : ℕ) (t : List Gate) → In d (stepsFrom eventD leaf joinD gs (take g t)) → In d (stepsFrom eventD leaf joinD gs t)
-front d gs zero t h = absurd h
-front d gs (suc g) [] h = absurd h
-front d gs (suc g) (x ∷ t) h =
-    let hs = gs ++ (valueD gs x ∷ []) in
-    in-after d (stepsD gs x) (stepsFrom eventD leaf joinD hs (take g t)) (stepsFrom eventD leaf joinD hs t) (front d hs g t) h
-
-pub steps-front : (d : Diagram) (g : ℕ) (t : List Gate) → In d (stepDiagrams (take g t)) → In d (stepDiagrams t)
-unfolding stepDiagrams
-steps-front d g t h = front d [] g t h
 
 pub diagrams-length : (t : List Gate) → length (gateDiagrams t) ≡ length t
 unfolding gateDiagrams

@@ -58,7 +58,7 @@ pairs-at n (d ∷ ds) [] i p = absurd p
 pairs-at n (d ∷ ds) (F ∷ Fs) zero p = p .0
 pairs-at n (d ∷ ds) (F ∷ Fs) (suc i) p = pairs-at n ds Fs i (p .1)
 
-module _ (n : ℕ) (t : List Gate) (b : TreeBelow n t) {G T H X : List ℕ} {root c : ℕ} (w : Whole t G T H X root c) where
+module _ (n : ℕ) (t : List Gate) (b : TreeBelow n t) {G A T H X : List ℕ} {root c : ℕ} (w : Whole t G A T H X root c) where
   -- every number denotes an ordered, reduced diagram of the n events
   pub whole-good : (i : ℕ) → i < c + 2 → Good n 0 (den T i)
   whole-good i h = go i h (below-or-not i 2)

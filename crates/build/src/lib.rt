@@ -57,13 +57,14 @@ fn next_gate(
     )
 }
 
-// The nodes of all gates into the list, one gate after the other.
+// The nodes of all gates into the list, one gate after the other, and how many each adds to the table into the other list.
 fn build_gates(
     nodes: &mut [u32],
     heads: &mut [u32],
     next: &mut [u32],
     memo: &mut [u32],
     gates: &mut [u32],
+    added: &mut [u32],
     kinds: &[u8],
     leasts: &[u8],
     sizes: &[u8],
@@ -71,8 +72,9 @@ fn build_gates(
 ) -> Finish
     requires { ⌜ Plan (now kinds) (now leasts) (now sizes) (now inputs) ⌝ }
     requires { ⌜ length (now sizes) ≤ length (now gates) ⌝ }
-    requires { ⌜ Sofar (gatesOf (now kinds) (now leasts) 0 (now sizes) (now inputs)) 0 (now gates) (now nodes) (now heads) (now next) (now memo) 0 ⌝ }
-    ensures { λ r. ⌜ Finishes (gatesOf (now (kinds .entry)) (now (leasts .entry)) 0 (now (sizes .entry)) (now (inputs .entry))) (length (now (nodes .entry)) / 3) (now (gates .exit)) (now (nodes .exit)) (now (heads .exit)) (now (next .exit)) r ⌝ }
+    requires { ⌜ length (now sizes) ≤ length (now added) ⌝ }
+    requires { ⌜ Sofar (gatesOf (now kinds) (now leasts) 0 (now sizes) (now inputs)) 0 (now gates) (now added) (now nodes) (now heads) (now next) (now memo) 0 ⌝ }
+    ensures { λ r. ⌜ Finishes (gatesOf (now (kinds .entry)) (now (leasts .entry)) 0 (now (sizes .entry)) (now (inputs .entry))) (length (now (nodes .entry)) / 3) (now (gates .exit)) (now (added .exit)) (now (nodes .exit)) (now (heads .exit)) (now (next .exit)) r ⌝ }
 {
     let mut g = 0;
     let mut at = 0;
@@ -95,6 +97,7 @@ fn build_gates(
         ) {
             Built::Done(node, to) => {
                 gates[g] = node;
+                added[g] = (to - count) as u32;
                 root = node;
                 count = to;
             }
@@ -113,6 +116,7 @@ fn build_over(
     next: &mut [u32],
     memo: &mut [u32],
     gates: &mut [u32],
+    added: &mut [u32],
     kinds: &[u8],
     leasts: &[u8],
     sizes: &[u8],
@@ -121,19 +125,22 @@ fn build_over(
     requires { ⌜ Areas (now nodes) (now heads) (now next) ⌝ }
     requires { ⌜ Plan (now kinds) (now leasts) (now sizes) (now inputs) ⌝ }
     requires { ⌜ length (now sizes) ≤ length (now gates) ⌝ }
+    requires { ⌜ length (now sizes) ≤ length (now added) ⌝ }
     requires { ⌜ Places (now memo) ⌝ }
-    ensures { λ r. ⌜ Finishes (gatesOf (now (kinds .entry)) (now (leasts .entry)) 0 (now (sizes .entry)) (now (inputs .entry))) (length (now (nodes .entry)) / 3) (now (gates .exit)) (now (nodes .exit)) (now (heads .exit)) (now (next .exit)) r ⌝ }
+    ensures { λ r. ⌜ Finishes (gatesOf (now (kinds .entry)) (now (leasts .entry)) 0 (now (sizes .entry)) (now (inputs .entry))) (length (now (nodes .entry)) / 3) (now (gates .exit)) (now (added .exit)) (now (nodes .exit)) (now (heads .exit)) (now (next .exit)) r ⌝ }
 {
     clear(nodes);
     clear(heads);
     clear(memo);
     clear(gates);
+    clear(added);
     build_gates(
         nodes,
         heads,
         next,
         memo,
         gates,
+        added,
         kinds,
         leasts,
         sizes,
@@ -149,6 +156,7 @@ fn build(
     next: &mut [u32],
     memo: &mut [u32],
     gates: &mut [u32],
+    added: &mut [u32],
     kinds: &[u8],
     leasts: &[u8],
     sizes: &[u8],
@@ -157,7 +165,8 @@ fn build(
     requires { ⌜ Areas (now nodes) (now heads) (now next) ⌝ }
     requires { ⌜ Plan (now kinds) (now leasts) (now sizes) (now inputs) ⌝ }
     requires { ⌜ length (now sizes) ≤ length (now gates) ⌝ }
-    ensures { λ r. ⌜ Finishes (gatesOf (now (kinds .entry)) (now (leasts .entry)) 0 (now (sizes .entry)) (now (inputs .entry))) (length (now (nodes .entry)) / 3) (now (gates .exit)) (now (nodes .exit)) (now (heads .exit)) (now (next .exit)) r ⌝ }
+    requires { ⌜ length (now sizes) ≤ length (now added) ⌝ }
+    ensures { λ r. ⌜ Finishes (gatesOf (now (kinds .entry)) (now (leasts .entry)) 0 (now (sizes .entry)) (now (inputs .entry))) (length (now (nodes .entry)) / 3) (now (gates .exit)) (now (added .exit)) (now (nodes .exit)) (now (heads .exit)) (now (next .exit)) r ⌝ }
 {
     let n = store::used(memo.len());
     if n < 4 {
@@ -168,6 +177,7 @@ fn build(
             next,
             &mut one,
             gates,
+            added,
             kinds,
             leasts,
             sizes,
@@ -180,6 +190,7 @@ fn build(
         next,
         &mut memo[..n],
         gates,
+        added,
         kinds,
         leasts,
         sizes,
@@ -195,11 +206,13 @@ pub fn build_tree(
     next: &mut [u32],
     memo: &mut [u32],
     gates: &mut [u32],
+    added: &mut [u32],
 ) -> Finish
     requires { ⌜ Arrays tree ⌝ }
     requires { ⌜ Areas (now nodes) (now heads) (now next) ⌝ }
     requires { ⌜ tree .«gate_count» ≤ length (now gates) ⌝ }
-    ensures { λ r. ⌜ Finishes (gatesOf (tree .kinds) (tree .leasts) 0 (take (tree .«gate_count») (tree .sizes)) (tree .inputs)) (length (now (nodes .entry)) / 3) (now (gates .exit)) (now (nodes .exit)) (now (heads .exit)) (now (next .exit)) r ⌝ }
+    requires { ⌜ tree .«gate_count» ≤ length (now added) ⌝ }
+    ensures { λ r. ⌜ Finishes (gatesOf (tree .kinds) (tree .leasts) 0 (take (tree .«gate_count») (tree .sizes)) (tree .inputs)) (length (now (nodes .entry)) / 3) (now (gates .exit)) (now (added .exit)) (now (nodes .exit)) (now (heads .exit)) (now (next .exit)) r ⌝ }
 {
     let count = tree.gate_count;
     let kinds = tree.kinds;
@@ -212,6 +225,7 @@ pub fn build_tree(
         next,
         memo,
         gates,
+        added,
         &kinds,
         &leasts,
         &sizes[..count],

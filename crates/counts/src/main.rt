@@ -79,6 +79,7 @@ fn answered(bytes: &[u8], room: usize, cut_room: usize) -> u8
     let mut nodes = [7u32; TABLE];
     let mut cuts = [7u32; TABLE];
     let mut gates = [7u32; paper::GATES];
+    let mut added = [7u32; paper::GATES];
     let mut memo = [7u32; MEMO];
     let mut heads = [7u32; AREA];
     let mut next = [7u32; AREA];
@@ -91,6 +92,7 @@ fn answered(bytes: &[u8], room: usize, cut_room: usize) -> u8
         &mut nodes[..n],
         &mut cuts[..m],
         &mut gates,
+        &mut added,
         &mut memo,
         &mut heads,
         &mut next,
@@ -121,6 +123,7 @@ fn analysed(bytes: &[u8], listed: bool) {
     let mut nodes = [7u32; TABLE];
     let mut cuts = [7u32; TABLE];
     let mut gates = [7u32; paper::GATES];
+    let mut added = [7u32; paper::GATES];
     let mut memo = [7u32; MEMO];
     let mut heads = [7u32; AREA];
     let mut next = [7u32; AREA];
@@ -131,6 +134,7 @@ fn analysed(bytes: &[u8], listed: bool) {
         &mut nodes,
         &mut cuts,
         &mut gates,
+        &mut added,
         &mut memo,
         &mut heads,
         &mut next,

@@ -25,7 +25,7 @@ ghost use Rattle.equations.specs.Contract.{Imports};
 ghost use Rattle.equations.specs.declared.Imported.{Imported};
 ghost use Rattle.sizes.specs.Counted.{Counted};
 ghost use Rattle.sizes.specs.declared.Tally.{Tally};
-ghost use Rattle.folder.specs.Contract.{lends, Gathers};
+ghost use Rattle.folder.specs.Contract.{lent, lends, Gathers};
 ghost use Rattle.folder.specs.declared.Gathered.{Gathered};
 ghost use Rattle.exported.specs.Arrays.{arrays, treeFrom, filled, after};
 ghost use Rattle.exported.specs.Numbers.{ofReading, ofWriting, ofAnalysis, ofListing, ofBracket, ofImport, ofTally, ofGathered};
@@ -142,6 +142,7 @@ pub extern "C" fn matticklet_analyse(
     nodes: &mut [u32],
     cuts: &mut [u32],
     gates: &mut [u32],
+    added: &mut [u32],
     memo: &mut [u32],
     heads: &mut [u32],
     next: &mut [u32],
@@ -149,9 +150,20 @@ pub extern "C" fn matticklet_analyse(
     own: &mut [u32],
     answer: &mut [u64; 6],
 )
-    ensures { λ _. ⌜ ((r : Analysis) × (Analysed (now (bytes .entry)) (memory (now (nodes .entry)) (now (cuts .entry)) (now (gates .entry)) (now (memo .entry)) (now (heads .entry)) (now (next .entry)) (now (marks .entry)) (now (own .entry))) (memory (now (nodes .exit)) (now (cuts .exit)) (now (gates .exit)) (now (memo .exit)) (now (heads .exit)) (now (next .exit)) (now (marks .exit)) (now (own .exit))) r × (now (answer .exit) ≡ ofAnalysis r))) ⌝ }
+    ensures { λ _. ⌜ ((r : Analysis) × (Analysed (now (bytes .entry)) (memory (now (nodes .entry)) (now (cuts .entry)) (now (gates .entry)) (now (added .entry)) (now (memo .entry)) (now (heads .entry)) (now (next .entry)) (now (marks .entry)) (now (own .entry))) (memory (now (nodes .exit)) (now (cuts .exit)) (now (gates .exit)) (now (added .exit)) (now (memo .exit)) (now (heads .exit)) (now (next .exit)) (now (marks .exit)) (now (own .exit))) r × (now (answer .exit) ≡ ofAnalysis r))) ⌝ }
 {
-    let r = analyser::analyse(bytes, nodes, cuts, gates, memo, heads, next, marks, own);
+    let r = analyser::analyse(
+        bytes,
+        nodes,
+        cuts,
+        gates,
+        added,
+        memo,
+        heads,
+        next,
+        marks,
+        own,
+    );
     *answer = [
         r.number as u64,
         r.place as u64,
@@ -324,7 +336,7 @@ pub extern "C" fn matticklet_folder(
     reached: &mut [u64],
     answer: &mut [u64; 3],
 )
-    ensures { λ _. ⌜ ((r : Gathered) × (Gathers (now (bytes .entry)) (now (lengths .entry)) (lends (memory (now (nodes .entry)) (now (cuts .entry)) (now (gates .entry)) (now (memo .entry)) (now (heads .entry)) (now (next .entry)) (now (marks .entry)) (now (own .entry))) (now (less .entry)) (now (work .entry)) (now (reached .entry))) (now (counts .entry)) (lends (memory (now (nodes .exit)) (now (cuts .exit)) (now (gates .exit)) (now (memo .exit)) (now (heads .exit)) (now (next .exit)) (now (marks .exit)) (now (own .exit))) (now (less .exit)) (now (work .exit)) (now (reached .exit))) (now (counts .exit)) r × (now (answer .exit) ≡ ofGathered r))) ⌝ }
+    ensures { λ _. ⌜ ((r : Gathered) × (Gathers (now (bytes .entry)) (now (lengths .entry)) (lends (lent (now (nodes .entry)) (now (cuts .entry)) (now (gates .entry)) (now (memo .entry)) (now (heads .entry)) (now (next .entry)) (now (marks .entry)) (now (own .entry))) (now (less .entry)) (now (work .entry)) (now (reached .entry))) (now (counts .entry)) (lends (lent (now (nodes .exit)) (now (cuts .exit)) (now (gates .exit)) (now (memo .exit)) (now (heads .exit)) (now (next .exit)) (now (marks .exit)) (now (own .exit))) (now (less .exit)) (now (work .exit)) (now (reached .exit))) (now (counts .exit)) r × (now (answer .exit) ≡ ofGathered r))) ⌝ }
 {
     let r = folder::folder(
         bytes,

@@ -40,7 +40,7 @@ pub record Kept (l k : Lends) : Type 0 where
 
 pub kept-none : (l : Lends) → Kept l l
 kept-none l = record {
-  memory = record { nodes = refl; cuts = refl; gates = refl; memo = refl; heads = refl; next = refl; marks = refl; own = refl };
+  memory = record { nodes = refl; cuts = refl; gates = refl; added = refl; memo = refl; heads = refl; next = refl; marks = refl; own = refl };
   less = refl;
   work = refl;
   reached = refl;
@@ -52,6 +52,7 @@ kept-on a b = record {
     nodes = b .memory .nodes ∙ a .memory .nodes;
     cuts = b .memory .cuts ∙ a .memory .cuts;
     gates = b .memory .gates ∙ a .memory .gates;
+    added = b .memory .added ∙ a .memory .added;
     memo = b .memory .memo ∙ a .memory .memo;
     heads = b .memory .heads ∙ a .memory .heads;
     next = b .memory .next ∙ a .memory .next;

@@ -1,13 +1,16 @@
 -- What the call answers after the row of trees, and after all that was lent is cleared.
 -- Assumes nothing.
-use mathlib.Core.Path.{_≡_, refl, sym, _∙_, subst}
+use mathlib.Core.Path.{_≡_, refl, sym, ap, _∙_, subst}
 use mathlib.Core.List.{List}
 use Prim.Native.Nat.{ℕ, _≤_}
 use native.Mathlib.Decide.{ℕ-discrete}
 use native.Mathlib.Omega.{arith}
+use lib.ListN.{length, replicate}
+use Rattle.paper.specs.Limits.{limits}
+use Rattle.memory.specs.Memory.{Memory, AllZero}
 use Rattle.memory.proofs.Before.{all-zero-from, zero-from}
 use Rattle.totals.specs.Adding.{Ends}
-use Rattle.folder.specs.Contract.{Lends, Right, Answers, Cleared, AtOnce, Leaves, Gathers}
+use Rattle.folder.specs.Contract.{lent, Lends, lends, Right, Answers, Cleared, AtOnce, Leaves, Gathers}
 use Rattle.folder.specs.Steps.{Tried}
 use Rattle.folder.specs.declared.Gathered.{Gathered}
 use Rattle.folder.proofs.Passing.{refusal-number}
@@ -22,15 +25,27 @@ cleared-from {l} {k} {l′} h c = record {
   reached = zero-from (h .memory) (l .reached) (k .reached) (l′ .reached) (h .reached) (c .reached);
 }
 
+-- ---- the folder's own list
+
+-- what was lent, that list zero
+abbrev own : Lends → Lends
+own k = let m = k .memory in lends (lent (m .nodes) (m .cuts) (m .gates) (m .memo) (m .heads) (m .next) (m .marks) (m .own)) (k .less) (k .work) (k .reached)
+
+-- all is zero, that list too
+pub own-zero : {k m : Memory} → AllZero k m → length (k .added) ≡ limits .gates → AllZero k (lent (m .nodes) (m .cuts) (m .gates) (m .memo) (m .heads) (m .next) (m .marks) (m .own))
+own-zero z e = record { nodes = z .nodes; cuts = z .cuts; gates = z .gates; added = ap (λ n. replicate n 0) (sym e); memo = z .memo; heads = z .heads; next = z .next; marks = z .marks; own = z .own }
+
+-- ---- the answer
+
 module _ {bytes lengths : List ℕ} {l k : Lends} {C L : List ℕ} {a : Gathered} (f : Right bytes lengths l C) (t : Tried bytes lengths l k L a) where
   -- the first tree's own 1 to 9: nothing was changed
-  pub at-once : (a .tree ≡ 0) × (1 ≤ a .number) × (a .number ≤ 9) → Gathers bytes lengths l C k C a
-  at-once (z, s, n) = go t
+  pub at-once : own l ≡ l → (a .tree ≡ 0) × (1 ≤ a .number) × (a .number ≤ 9) → Gathers bytes lengths l C (own k) C a
+  at-once o (z, s, n) = go t
     where
-      go : Tried bytes lengths l k L a → Gathers bytes lengths l C k C a
+      go : Tried bytes lengths l k L a → Gathers bytes lengths l C (own k) C a
       go (Tried.refused i v r e u) =
           let q : AtOnce i (v .number) = (sym (e .tree-is) ∙ z, subst (λ x. x ≤ 9) (e .number-is) n) in
-          Gathers.refused i v f r e (Leaves.unchanged q (u q)) refl
+          Gathers.refused i v f r e (Leaves.unchanged q (ap own (u q) ∙ o)) refl
       go (Tried.passed ts due p b e) = absurd (let w = e .number-is in let (q, o) = b .over (λ x. omega (arith, x, w, s)) in omega (arith, q, w, n))
 
   -- otherwise all that was lent is zero, and the counts are written or stay

@@ -9,7 +9,8 @@ use lib.ListN.{length, getD, take}
 use lib.Seq.{getD-take, length-take-le}
 use Rattle.paper.specs.Limits.{limits}
 use Rattle.paper.specs.Trees.{Tree}
-use Rattle.paper.specs.Answers.{Verdict, NodesFull, CutsFull}
+use Rattle.paper.specs.Answers.{Verdict, NodesFull, FilledAt, CutsFull}
+use Rattle.algebra.proofs.Prefixes.{filled-full, filled-once}
 use Rattle.rules.specs.Answers.{verdict}
 use Rattle.records.specs.Judge.{Book, accept, outcome}
 use Rattle.records.specs.Trees.{treeOf}
@@ -18,7 +19,7 @@ use Rattle.memory.specs.Outcome.{at, Done}
 use Rattle.memory.specs.declared.Analysis.{Analysis}
 use Rattle.memory.proofs.Before.{SameLengths, lengths-from}
 use Rattle.analyser.specs.Analysed.{Analysed}
-use Rattle.promises.proofs.Contents.{other-way, nodes-full, nodes-full-back, cuts-full, cuts-full-back}
+use Rattle.promises.proofs.Contents.{other-way, filled-at, nodes-full-back, cuts-full, cuts-full-back}
 use Rattle.promises.proofs.Refusals.{refusal-range}
 use Rattle.promises.proofs.Coincide.{same-answer, same-book, not-both}
 use Rattle.promises.proofs.Which.{from-done}
@@ -41,7 +42,7 @@ module _ {m k : Memory} (s : SameLengths m k) where
   pub refuses-from : {bytes : List ℕ} {v : Verdict} → Refuses k bytes v → Refuses m bytes v
   refuses-from (Refuses.bad-tree w p e) = Refuses.bad-tree w p e
   refuses-from (Refuses.bad-length b p n e) = Refuses.bad-length b p (λ l. n (lengths-from s l)) e
-  refuses-from (Refuses.nodes-full b p l f e) = Refuses.nodes-full b p (lengths-from (other-way s) l) (nodes-full s (treeOf b) f) e
+  refuses-from (Refuses.nodes-full b g p l f e) = Refuses.nodes-full b g p (lengths-from (other-way s) l) (filled-at s (treeOf b) f) e
   refuses-from (Refuses.cuts-full b p l f g e) =
       Refuses.cuts-full b p (lengths-from (other-way s) l) (λ h. f (nodes-full-back s (treeOf b) h)) (cuts-full s (treeOf b) g) e
 
@@ -51,7 +52,7 @@ module _ {bytes : List ℕ} {m m′ : Memory} {a : Analysis} where
   pub analysed-refused : Analysed bytes m m′ a → (a .number ≡ 0 → ⊥) → Refuses m bytes (at (a .number) (a .place)) × (a .number ≤ 9 → m′ ≡ m)
   analysed-refused (Analysed.bad-tree w p r k) z = (Refuses.bad-tree w p (ap₂ at (r .number) (r .place)), λ _. k)
   analysed-refused (Analysed.bad-length b p n r k) z = (Refuses.bad-length b p n (ap₂ at (r .number) (r .place)), λ _. k)
-  analysed-refused (Analysed.nodes-full b p n f r k) z = (Refuses.nodes-full b p n f (ap₂ at (r .number) (r .place)), λ h. absurd (let e = r .number in omega arith))
+  analysed-refused (Analysed.nodes-full b g p n f r k) z = (Refuses.nodes-full b g p n f (ap₂ at (r .number) (r .place)), λ h. absurd (let e = r .number in omega arith))
   analysed-refused (Analysed.cuts-full b p n f g r k) z = (Refuses.cuts-full b p n f g (ap₂ at (r .number) (r .place)), λ h. absurd (let e = r .number in omega arith))
   analysed-refused (Analysed.done b p n f g r) z = absurd (z (r .number))
 
@@ -66,8 +67,11 @@ module _ (m : Memory) {b c : Book} (e : c ≡ b) where
   read-long : Lengths (length (treeOf c .gates)) m → Lengths (length (treeOf b .gates)) m
   read-long = subst (λ x. Lengths (length (treeOf x .gates)) m) e
 
-  read-full : NodesFull (treeOf c) (capacity (m .nodes)) → NodesFull (treeOf b) (capacity (m .nodes))
-  read-full = subst (λ x. NodesFull (treeOf x) (capacity (m .nodes))) e
+  read-at : {g : ℕ} → FilledAt (treeOf c) (capacity (m .nodes)) g → FilledAt (treeOf b) (capacity (m .nodes)) g
+  read-at {g} = subst (λ x. FilledAt (treeOf x) (capacity (m .nodes)) g) e
+
+  read-full : {g : ℕ} → FilledAt (treeOf c) (capacity (m .nodes)) g → NodesFull (treeOf b) (capacity (m .nodes))
+  read-full f = filled-full (treeOf b) (capacity (m .nodes)) (read-at f)
 
 module _ {m : Memory} {bytes : List ℕ} where
   pub same-tree : {t u : Tree} → Passes m bytes t → Passes m bytes u → t ≡ u
@@ -80,31 +84,31 @@ module _ {m : Memory} {bytes : List ℕ} where
   pub not-both-ways : {t : Tree} {v : Verdict} → Passes m bytes t → Refuses m bytes v → ⊥
   not-both-ways p (Refuses.bad-tree w e q) = not-both bytes e (p .accepted)
   not-both-ways p (Refuses.bad-length b e n q) = n (subst (λ t. Lengths (length (t .gates)) m) (tree-of p e) (p .lengths))
-  not-both-ways p (Refuses.nodes-full b e l f q) = p .nodes-fit (subst (λ t. NodesFull t (capacity (m .nodes))) (sym (tree-of p e)) f)
+  not-both-ways p (Refuses.nodes-full b g e l f q) = p .nodes-fit (subst (λ t. NodesFull t (capacity (m .nodes))) (sym (tree-of p e)) (filled-full (treeOf b) (capacity (m .nodes)) f))
   not-both-ways p (Refuses.cuts-full b e l f g q) = p .cuts-fit (subst (λ t. CutsFull t (capacity (m .cuts))) (sym (tree-of p e)) g)
 
   pub refusal-number : {v : Verdict} → Refuses m bytes v → (1 ≤ v .number) × (v .number ≤ 11)
   refusal-number (Refuses.bad-tree w e q) = let (l, h) = refusal-range bytes w e in let k = ap (λ x. x .number) q in (omega arith, omega arith)
   refusal-number (Refuses.bad-length b e n q) = let k = ap (λ x. x .number) q in (omega arith, omega arith)
-  refusal-number (Refuses.nodes-full b e l f q) = let k = ap (λ x. x .number) q in (omega arith, omega arith)
+  refusal-number (Refuses.nodes-full b g e l f q) = let k = ap (λ x. x .number) q in (omega arith, omega arith)
   refusal-number (Refuses.cuts-full b e l f g q) = let k = ap (λ x. x .number) q in (omega arith, omega arith)
 
   pub same-refusal : {v w : Verdict} → Refuses m bytes v → Refuses m bytes w → v ≡ w
   same-refusal (Refuses.bad-tree w p e) (Refuses.bad-tree v q d) = e ∙ ap verdict (same-answer bytes q p) ∙ sym d
   same-refusal (Refuses.bad-tree w p e) (Refuses.bad-length b q n d) = absurd (not-both bytes p q)
-  same-refusal (Refuses.bad-tree w p e) (Refuses.nodes-full b q l f d) = absurd (not-both bytes p q)
+  same-refusal (Refuses.bad-tree w p e) (Refuses.nodes-full b i q l f d) = absurd (not-both bytes p q)
   same-refusal (Refuses.bad-tree w p e) (Refuses.cuts-full b q l f g d) = absurd (not-both bytes p q)
   same-refusal (Refuses.bad-length b p n e) (Refuses.bad-tree v q d) = absurd (not-both bytes q p)
   same-refusal (Refuses.bad-length b p n e) (Refuses.bad-length c q o d) = e ∙ sym d
-  same-refusal (Refuses.bad-length b p n e) (Refuses.nodes-full c q l f d) = absurd (n (read-long m (same-book bytes p q) l))
+  same-refusal (Refuses.bad-length b p n e) (Refuses.nodes-full c i q l f d) = absurd (n (read-long m (same-book bytes p q) l))
   same-refusal (Refuses.bad-length b p n e) (Refuses.cuts-full c q l f g d) = absurd (n (read-long m (same-book bytes p q) l))
-  same-refusal (Refuses.nodes-full b p l f e) (Refuses.bad-tree v q d) = absurd (not-both bytes q p)
-  same-refusal (Refuses.nodes-full b p l f e) (Refuses.bad-length c q o d) = absurd (o (read-long m (same-book bytes q p) l))
-  same-refusal (Refuses.nodes-full b p l f e) (Refuses.nodes-full c q k g d) = e ∙ sym d
-  same-refusal (Refuses.nodes-full b p l f e) (Refuses.cuts-full c q k g h d) = absurd (g (read-full m (same-book bytes q p) f))
+  same-refusal (Refuses.nodes-full b i p l f e) (Refuses.bad-tree v q d) = absurd (not-both bytes q p)
+  same-refusal (Refuses.nodes-full b i p l f e) (Refuses.bad-length c q o d) = absurd (o (read-long m (same-book bytes q p) l))
+  same-refusal (Refuses.nodes-full b i p l f e) (Refuses.nodes-full c j q k g d) = e ∙ ap (at 10) (filled-once (treeOf b) (capacity (m .nodes)) f (read-at m (same-book bytes p q) g)) ∙ sym d
+  same-refusal (Refuses.nodes-full b i p l f e) (Refuses.cuts-full c q k g h d) = absurd (g (read-full m (same-book bytes q p) f))
   same-refusal (Refuses.cuts-full b p l f g e) (Refuses.bad-tree v q d) = absurd (not-both bytes q p)
   same-refusal (Refuses.cuts-full b p l f g e) (Refuses.bad-length c q o d) = absurd (o (read-long m (same-book bytes q p) l))
-  same-refusal (Refuses.cuts-full b p l f g e) (Refuses.nodes-full c q k h d) = absurd (f (read-full m (same-book bytes p q) h))
+  same-refusal (Refuses.cuts-full b p l f g e) (Refuses.nodes-full c i q k h d) = absurd (f (read-full m (same-book bytes p q) h))
   same-refusal (Refuses.cuts-full b p l f g e) (Refuses.cuts-full c q k h i d) = e ∙ sym d
 
 -- ---- the trees of a folder

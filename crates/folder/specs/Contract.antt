@@ -3,14 +3,20 @@
 use mathlib.Core.Path.{_≡_}
 use mathlib.Core.List.{List}
 use Prim.Native.Nat.{ℕ, _≤_}
+use lib.ListN.{replicate}
+use Rattle.paper.specs.Limits.{limits}
 use Rattle.paper.specs.Trees.{Tree}
 use Rattle.paper.specs.Answers.{Verdict}
-use Rattle.memory.specs.Memory.{Memory, Zero, AllZero}
+use Rattle.memory.specs.Memory.{Memory, memory, Zero, AllZero}
 use Rattle.totals.specs.Fitting.{Fitting}
 use Rattle.folder.specs.Parts.{parts}
 use Rattle.folder.specs.Passing.{AllPass, FirstRefused}
 use Rattle.folder.specs.Totals.{Above, Fits, Totals}
 use Rattle.folder.specs.declared.Gathered.{Gathered}
+
+-- what an analysis is lent in a folder: the lists that the folder is lent, and a list of its own for what each gate adds, long enough for any tree and zero
+abbrev pub lent : (nodes cuts gates memo heads next marks own : List ℕ) → Memory
+lent nodes cuts gates memo heads next marks own = memory nodes cuts gates (replicate (limits .gates) 0) memo heads next marks own
 
 -- what is lent beside the counts: the memory of an analysis, and the three areas of the counting
 pub record Lends : Type 0 where

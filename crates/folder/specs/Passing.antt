@@ -6,7 +6,7 @@ use Prim.Native.Nat.{ℕ, _<_}
 use lib.ListN.{length, getD, take}
 use Rattle.paper.specs.Limits.{limits}
 use Rattle.paper.specs.Trees.{Tree}
-use Rattle.paper.specs.Answers.{Verdict, NodesFull, CutsFull}
+use Rattle.paper.specs.Answers.{Verdict, NodesFull, FilledAt, CutsFull}
 use Rattle.rules.specs.Answers.{verdict}
 use Rattle.records.specs.Judge.{Book, accept, refuse, outcome}
 use Rattle.records.specs.Trees.{treeOf}
@@ -27,7 +27,7 @@ pub record Passes (m : Memory) (bytes : List ℕ) (t : Tree) : Type 0 where
 pub data Refuses (m : Memory) (bytes : List ℕ) (v : Verdict) : Type 0 where
   bad-tree : (w : Answer) → outcome limits bytes ≡ refuse w → v ≡ verdict w → Refuses m bytes v
   bad-length : (b : Book) → outcome limits bytes ≡ accept b → (Lengths (length (treeOf b .gates)) m → ⊥) → v ≡ at 9 0 → Refuses m bytes v
-  nodes-full : (b : Book) → outcome limits bytes ≡ accept b → Lengths (length (treeOf b .gates)) m → NodesFull (treeOf b) (capacity (m .nodes)) → v ≡ at 10 0 → Refuses m bytes v
+  nodes-full : (b : Book) (g : ℕ) → outcome limits bytes ≡ accept b → Lengths (length (treeOf b .gates)) m → FilledAt (treeOf b) (capacity (m .nodes)) g → v ≡ at 10 g → Refuses m bytes v
   cuts-full : (b : Book) → outcome limits bytes ≡ accept b → Lengths (length (treeOf b .gates)) m → (NodesFull (treeOf b) (capacity (m .nodes)) → ⊥)
       → CutsFull (treeOf b) (capacity (m .cuts)) → v ≡ at 11 0 → Refuses m bytes v
 

@@ -11,7 +11,7 @@ ghost use Rattle.paper.specs.Lists.{sum};
 ghost use Rattle.paper.specs.Sizes.{sizes};
 ghost use Rattle.memory.specs.Memory.{memory};
 ghost use Rattle.totals.specs.Adding.{Areas};
-ghost use Rattle.folder.specs.Contract.{lends, Answers, Gathers};
+ghost use Rattle.folder.specs.Contract.{lent, lends, Answers, Gathers};
 ghost use Rattle.folder.specs.Steps.{Sums, Tried};
 
 // What a folder answers: its number and place, and the index of the tree that is refused.
@@ -40,6 +40,7 @@ fn all_trees(
     nodes: &mut [u32],
     cuts: &mut [u32],
     gates: &mut [u32],
+    added: &mut [u32],
     memo: &mut [u32],
     heads: &mut [u32],
     next: &mut [u32],
@@ -50,7 +51,7 @@ fn all_trees(
     reached: &mut [u64],
 ) -> Gathered
     requires { ⌜ (sum (now lengths) ≡ length (now bytes)) × (Areas (now cuts) (now less) (now work) (now reached)) × (length (now totals) ≡ sizes) × (Sums [] (now totals) 0) ⌝ }
-    ensures { λ r. ⌜ Tried (now (bytes .entry)) (now (lengths .entry)) (lends (memory (now (nodes .entry)) (now (cuts .entry)) (now (gates .entry)) (now (memo .entry)) (now (heads .entry)) (now (next .entry)) (now (marks .entry)) (now (own .entry))) (now (less .entry)) (now (work .entry)) (now (reached .entry))) (lends (memory (now (nodes .exit)) (now (cuts .exit)) (now (gates .exit)) (now (memo .exit)) (now (heads .exit)) (now (next .exit)) (now (marks .exit)) (now (own .exit))) (now (less .exit)) (now (work .exit)) (now (reached .exit))) (now (totals .exit)) r ⌝ }
+    ensures { λ r. ⌜ Tried (now (bytes .entry)) (now (lengths .entry)) (lends (memory (now (nodes .entry)) (now (cuts .entry)) (now (gates .entry)) (now (added .entry)) (now (memo .entry)) (now (heads .entry)) (now (next .entry)) (now (marks .entry)) (now (own .entry))) (now (less .entry)) (now (work .entry)) (now (reached .entry))) (lends (memory (now (nodes .exit)) (now (cuts .exit)) (now (gates .exit)) (now (added .exit)) (now (memo .exit)) (now (heads .exit)) (now (next .exit)) (now (marks .exit)) (now (own .exit))) (now (less .exit)) (now (work .exit)) (now (reached .exit))) (now (totals .exit)) r ⌝ }
 {
     let mut i = 0;
     let mut start = 0;
@@ -62,6 +63,7 @@ fn all_trees(
             nodes,
             cuts,
             gates,
+            added,
             memo,
             heads,
             next,
@@ -92,7 +94,8 @@ fn all_trees(
     answer(due)
 }
 
-// Counts the minimal cuts of all trees of a folder by size: tree i has lengths[i] bytes, behind those of the trees before it.
+// Counts the minimal cuts of all trees of a folder by size: tree i has lengths[i] bytes, behind those of the trees before it. What each gate adds is
+// asked by nobody here, and goes to a list of the call's own.
 pub fn folder(
     bytes: &[u8],
     lengths: &[usize],
@@ -109,12 +112,13 @@ pub fn folder(
     work: &mut [u64],
     reached: &mut [u64],
 ) -> Gathered
-    ensures { λ r. ⌜ Gathers (now (bytes .entry)) (now (lengths .entry)) (lends (memory (now (nodes .entry)) (now (cuts .entry)) (now (gates .entry)) (now (memo .entry)) (now (heads .entry)) (now (next .entry)) (now (marks .entry)) (now (own .entry))) (now (less .entry)) (now (work .entry)) (now (reached .entry))) (now (counts .entry)) (lends (memory (now (nodes .exit)) (now (cuts .exit)) (now (gates .exit)) (now (memo .exit)) (now (heads .exit)) (now (next .exit)) (now (marks .exit)) (now (own .exit))) (now (less .exit)) (now (work .exit)) (now (reached .exit))) (now (counts .exit)) r ⌝ }
+    ensures { λ r. ⌜ Gathers (now (bytes .entry)) (now (lengths .entry)) (lends (lent (now (nodes .entry)) (now (cuts .entry)) (now (gates .entry)) (now (memo .entry)) (now (heads .entry)) (now (next .entry)) (now (marks .entry)) (now (own .entry))) (now (less .entry)) (now (work .entry)) (now (reached .entry))) (now (counts .entry)) (lends (lent (now (nodes .exit)) (now (cuts .exit)) (now (gates .exit)) (now (memo .exit)) (now (heads .exit)) (now (next .exit)) (now (marks .exit)) (now (own .exit))) (now (less .exit)) (now (work .exit)) (now (reached .exit))) (now (counts .exit)) r ⌝ }
 {
     if !is_fitting(bytes, lengths, cuts, counts, less, work, reached) {
         return answer(9);
     }
     let mut totals = [0; paper::SIZES];
+    let mut added = [0; paper::GATES];
     let a = all_trees(
         bytes,
         lengths,
@@ -122,6 +126,7 @@ pub fn folder(
         nodes,
         cuts,
         gates,
+        &mut added,
         memo,
         heads,
         next,
@@ -131,12 +136,21 @@ pub fn folder(
         work,
         reached,
     );
-    let number = a.number;
-    if at_once(number, a.tree) {
+    if at_once(a.number, a.tree) {
         return a;
     }
-    memory::wipe(nodes, cuts, gates, memo, heads, next, marks, own);
+    memory::wipe(
+        nodes,
+        cuts,
+        gates,
+        &mut added,
+        memo,
+        heads,
+        next,
+        marks,
+        own,
+    );
     clear_areas(less, work, reached);
-    write_done(number, &totals, counts);
+    write_done(a.number, &totals, counts);
     a
 }

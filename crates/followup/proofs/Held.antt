@@ -77,6 +77,6 @@ module _ (bytes : List ℕ) {r : Reading} (e : r ≡ inMemory (outcome limits by
   pub held : {m m′ : Memory} {a : Analysis} → Analysed bytes m m′ a → a .number ≡ 0 → Held (r .tree) (m′ .nodes) (m′ .cuts) a
   held (Analysed.bad-tree w q f k) z = absurd (refused-not-0 w q (sym (f .number) ∙ z))
   held (Analysed.bad-length b q l f k) z = absurd (let x = f .number in omega arith)
-  held (Analysed.nodes-full b q l h f k) z = absurd (let x = f .number in omega arith)
+  held (Analysed.nodes-full b g q l h f k) z = absurd (let x = f .number in omega arith)
   held (Analysed.cuts-full b q l h i f k) z = absurd (let x = f .number in omega arith)
   held {m} {m′} {a} (Analysed.done b q l h i d) z = subst (λ (t : Tree). Held t (m′ .nodes) (m′ .cuts) a) (sym (tree-is b q)) (book-held (lawful bytes b q) d)

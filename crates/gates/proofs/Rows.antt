@@ -22,11 +22,13 @@ use Rattle.tables.specs.Table.{den}
 use Rattle.tables.proofs.Den.{den-0, den-1}
 use Rattle.store.specs.Store.{Store}
 use Rattle.store.specs.Building.{Is, PartOf, Found, Stops, Builds, Tidy}
+use Rattle.store.specs.Placing.{Puts, builtOf}
+use Rattle.store.specs.declared.Placed.{Placed}
 use Rattle.store.specs.declared.Built.{Built}
 use Rattle.store.specs.declared.Built.the-variants.{Done, Short}
 use Rattle.store.proofs.Denotes.{below-or-not}
 use Rattle.algebra.proofs.Subs.{part-reduced}
-use Rattle.store.proofs.Building.{makes-more, stops-more, is-part, tidy-step}
+use Rattle.store.proofs.Building.{makes-more, stops-more, is-part, tidy-step, placed-built}
 use Rattle.atleast.specs.Making.{Row, Within, Made}
 use Rattle.atleast.proofs.Making.{all-none, row-here, row-map, row-grown, at-map, map-long, made-here, made-one, made-seq, made-stops, stops-one, part-more}
 use Rattle.gates.specs.Rules.{inputD, eventStepsD}
@@ -41,9 +43,9 @@ is-gate : (code : ℕ) → gatesFrom ≤ code → inputOf code ≡ gate (code - 
 is-gate code h = rw (le-ltb code gatesFrom h)
 
 -- the triple of an event
-pub event-made : (e : ℕ) (T : List ℕ) (c : ℕ) (T′ H′ X′ : List ℕ) (r : Built) → Builds (Is (node e (den T 1) (den T 0))) T c (node e (den T 1) (den T 0)) T′ H′ X′ r
-    → Builds (Is (eventD e)) T c (eventD e) T′ H′ X′ r
-event-made e T c T′ H′ X′ r b = subst (λ d. Builds (Is d) T c d T′ H′ X′ r) (ap₂ (node e) (den-1 T) (den-0 T)) b
+pub event-made : (e : ℕ) {T H X : List ℕ} {c : ℕ} → Store T H X c → (T′ H′ X′ : List ℕ) (p : Placed) → Puts T H X c (node e (den T 1) (den T 0)) T′ H′ X′ p
+    → {r : Built} → r ≡ builtOf c p → Builds (Is (eventD e)) T c (eventD e) T′ H′ X′ r
+event-made e {T} {H} {X} {c} s T′ H′ X′ p w {r} q = subst (λ d. Builds (Is d) T c d T′ H′ X′ r) (ap₂ (node e) (den-1 T) (den-0 T)) (placed-built s (node e (den T 1) (den T 0)) refl T′ H′ X′ p w q)
 
 -- an event's node is made
 pub names-event : (gs : List Diagram) (code : ℕ) (T : List ℕ) (c : ℕ) (T′ H′ X′ : List ℕ) (r : Built) → code < gatesFrom

@@ -22,7 +22,8 @@ fn event_node(nodes: &mut [u32], heads: &mut [u32], next: &mut [u32], count: usi
     requires { ⌜ Store (now nodes) (now heads) (now next) count ⌝ }
     ensures { λ r. ⌜ Builds (Is (eventD e)) (now (nodes .entry)) count (eventD e) (now (nodes .exit)) (now (heads .exit)) (now (next .exit)) r ⌝ }
 {
-    store::find_or_add(nodes, heads, next, count, e, 1, 0)
+    let placed = store::find_or_add(nodes, heads, next, count, e, 1, 0);
+    store::as_built(placed, count)
 }
 
 fn input_node(

@@ -99,6 +99,7 @@ fn answer(bytes: &[u8]) {
     let mut nodes = [0u32; TABLE];
     let mut cuts = [0u32; TABLE];
     let mut gates = [0u32; paper::GATES];
+    let mut added = [0u32; paper::GATES];
     let mut memo = [0u32; MEMO];
     let mut heads = [0u32; AREA];
     let mut next = [0u32; AREA];
@@ -109,6 +110,7 @@ fn answer(bytes: &[u8]) {
         &mut nodes,
         &mut cuts,
         &mut gates,
+        &mut added,
         &mut memo,
         &mut heads,
         &mut next,

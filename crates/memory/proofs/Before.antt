@@ -14,6 +14,7 @@ pub record SameLengths (m k : Memory) : Type 0 where
   pub nodes : length (k .nodes) ≡ length (m .nodes)
   pub cuts : length (k .cuts) ≡ length (m .cuts)
   pub gates : length (k .gates) ≡ length (m .gates)
+  pub added : length (k .added) ≡ length (m .added)
   pub memo : length (k .memo) ≡ length (m .memo)
   pub heads : length (k .heads) ≡ length (m .heads)
   pub next : length (k .next) ≡ length (m .next)
@@ -29,6 +30,7 @@ module _ {m k : Memory} (s : SameLengths m k) where
     nodes = zero-from (m .nodes) (k .nodes) (m′ .nodes) (s .nodes) (z .nodes);
     cuts = zero-from (m .cuts) (k .cuts) (m′ .cuts) (s .cuts) (z .cuts);
     gates = zero-from (m .gates) (k .gates) (m′ .gates) (s .gates) (z .gates);
+    added = zero-from (m .added) (k .added) (m′ .added) (s .added) (z .added);
     memo = zero-from (m .memo) (k .memo) (m′ .memo) (s .memo) (z .memo);
     heads = zero-from (m .heads) (k .heads) (m′ .heads) (s .heads) (z .heads);
     next = zero-from (m .next) (k .next) (m′ .next) (s .next) (z .next);
@@ -49,7 +51,9 @@ module _ {m k : Memory} (s : SameLengths m k) where
     nodes-long = z .nodes-long ∙ s .nodes;
     cuts-long = z .cuts-long ∙ s .cuts;
     gates-long = z .gates-long ∙ s .gates;
+    added-long = z .added-long ∙ s .added;
     gate-list = z .gate-list;
+    added-list = z .added-list;
     root-is = z .root-is;
     cuts-are = z .cuts-are;
     memo = zero-from (m .memo) (k .memo) (m′ .memo) (s .memo) (z .memo);
@@ -64,6 +68,7 @@ lengths-from {n} {m} {k} s l = record {
   node-table = record { threes = subst (λ x. x % 3 ≡ 0) (sym (s .nodes)) (l .node-table .threes); short = omega (arith, s .nodes, l .node-table .short) };
   cut-table = record { threes = subst (λ x. x % 3 ≡ 0) (sym (s .cuts)) (l .cut-table .threes); short = omega (arith, s .cuts, l .cut-table .short) };
   gate-list = omega (arith, s .gates, l .gate-list);
+  added-list = omega (arith, s .added, l .added-list);
   fours = subst (λ x. x % 4 ≡ 0) (sym (s .memo)) (l .fours);
   areas = record {
     heads = rw (s .nodes, s .cuts, s .heads) (l .areas .heads);

@@ -6,20 +6,21 @@ use Prim.Native.Nat.{ℕ, _+_, _/_, _%_, _≤_, max}
 use lib.ListN.{length, replicate}
 use Rattle.paper.specs.Limits.{mostNumbers}
 
--- the node table, the cut table, the gate list, the memo, and the four work areas
+-- the node table, the cut table, the gate list, the list of what each gate adds, the memo, and the four work areas
 pub record Memory : Type 0 where
   pub nodes : List ℕ
   pub cuts : List ℕ
   pub gates : List ℕ
+  pub added : List ℕ
   pub memo : List ℕ
   pub heads : List ℕ
   pub next : List ℕ
   pub marks : List ℕ
   pub own : List ℕ
 
-abbrev pub memory : List ℕ → List ℕ → List ℕ → List ℕ → List ℕ → List ℕ → List ℕ → List ℕ → Memory
-memory nodes cuts gates memo heads next marks own =
-    record { nodes = nodes; cuts = cuts; gates = gates; memo = memo; heads = heads; next = next; marks = marks; own = own }
+abbrev pub memory : List ℕ → List ℕ → List ℕ → List ℕ → List ℕ → List ℕ → List ℕ → List ℕ → List ℕ → Memory
+memory nodes cuts gates added memo heads next marks own =
+    record { nodes = nodes; cuts = cuts; gates = gates; added = added; memo = memo; heads = heads; next = next; marks = marks; own = own }
 
 -- three numbers are a node
 abbrev pub capacity : List ℕ → ℕ
@@ -46,6 +47,7 @@ pub record Lengths (gateCount : ℕ) (m : Memory) : Type 0 where
   pub node-table : TableLength (m .nodes)
   pub cut-table : TableLength (m .cuts)
   pub gate-list : gateCount ≤ length (m .gates)
+  pub added-list : gateCount ≤ length (m .added)
   pub fours : length (m .memo) % 4 ≡ 0
   pub areas : Areas (m .nodes) (m .cuts) (m .heads) (m .next) (m .marks) (m .own)
 
@@ -58,6 +60,7 @@ pub record AllZero (m m′ : Memory) : Type 0 where
   pub nodes : Zero (m .nodes) (m′ .nodes)
   pub cuts : Zero (m .cuts) (m′ .cuts)
   pub gates : Zero (m .gates) (m′ .gates)
+  pub added : Zero (m .added) (m′ .added)
   pub memo : Zero (m .memo) (m′ .memo)
   pub heads : Zero (m .heads) (m′ .heads)
   pub next : Zero (m .next) (m′ .next)

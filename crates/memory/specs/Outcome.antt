@@ -9,7 +9,7 @@ use Rattle.paper.specs.Lists.{In}
 use Rattle.paper.specs.Functions.{table}
 use Rattle.paper.specs.Trees.{Tree, events, constF, gateFuns, rootFun}
 use Rattle.paper.specs.Steps.{stepFuns}
-use Rattle.paper.specs.Nodes.{needed, nodesOf}
+use Rattle.paper.specs.Nodes.{needed, nodesOf, nodesAdded}
 use Rattle.paper.specs.Diagrams.{eval}
 use Rattle.paper.specs.Cuts.{setsOf, cutList, cutsNeeded}
 use Rattle.paper.specs.Answers.{Verdict, cutNodesOf}
@@ -53,6 +53,11 @@ pub record GateList (t : Tree) (T G : List ℕ) (c : ℕ) : Type 0 where
   pub shows : (i : ℕ) → i < length (t .gates) → eval (den T (getD G i 0)) ≡ getD (gateFuns (t .gates)) i (constF false)
   pub behind : (i : ℕ) → length (t .gates) ≤ i → getD G i 0 ≡ 0
 
+-- the list of what each gate adds, and behind it all is zero
+pub record AddedList (t : Tree) (A : List ℕ) : Type 0 where
+  pub each : (g : ℕ) → g < length (t .gates) → getD A g 0 ≡ nodesAdded t g
+  pub behind : (g : ℕ) → length (t .gates) ≤ g → getD A g 0 ≡ 0
+
 -- done: both counts, both roots, what each table holds; memo and work areas are zero
 pub record Done (t : Tree) (m m′ : Memory) (a : Analysis) : Type 0 where
   pub number : a .number ≡ 0
@@ -66,7 +71,9 @@ pub record Done (t : Tree) (m m′ : Memory) (a : Analysis) : Type 0 where
   pub nodes-long : length (m′ .nodes) ≡ length (m .nodes)
   pub cuts-long : length (m′ .cuts) ≡ length (m .cuts)
   pub gates-long : length (m′ .gates) ≡ length (m .gates)
+  pub added-long : length (m′ .added) ≡ length (m .added)
   pub gate-list : GateList t (m′ .nodes) (m′ .gates) (a .nodes)
+  pub added-list : AddedList t (m′ .added)
   pub root-is : a .root ≡ getD (m′ .gates) (length (t .gates) - 1) 0
   pub cuts-are : setsOf (den (m′ .cuts) (a .«cut_root»)) ≡ cutList (events t) (rootFun (t .gates))
   pub memo : Zero (m .memo) (m′ .memo)

@@ -32,17 +32,19 @@ pub fn wipe(
     nodes: &mut [u32],
     cuts: &mut [u32],
     gates: &mut [u32],
+    added: &mut [u32],
     memo: &mut [u32],
     heads: &mut [u32],
     next: &mut [u32],
     marks: &mut [u32],
     own: &mut [u32],
 )
-    ensures { λ _. ⌜ AllZero (memory (now (nodes .entry)) (now (cuts .entry)) (now (gates .entry)) (now (memo .entry)) (now (heads .entry)) (now (next .entry)) (now (marks .entry)) (now (own .entry))) (memory (now (nodes .exit)) (now (cuts .exit)) (now (gates .exit)) (now (memo .exit)) (now (heads .exit)) (now (next .exit)) (now (marks .exit)) (now (own .exit))) ⌝ }
+    ensures { λ _. ⌜ AllZero (memory (now (nodes .entry)) (now (cuts .entry)) (now (gates .entry)) (now (added .entry)) (now (memo .entry)) (now (heads .entry)) (now (next .entry)) (now (marks .entry)) (now (own .entry))) (memory (now (nodes .exit)) (now (cuts .exit)) (now (gates .exit)) (now (added .exit)) (now (memo .exit)) (now (heads .exit)) (now (next .exit)) (now (marks .exit)) (now (own .exit))) ⌝ }
 {
     clear(nodes);
     clear(cuts);
     clear(gates);
+    clear(added);
     clear(memo);
     clear(heads);
     clear(next);

@@ -2,13 +2,14 @@
 -- Assumes nothing.
 use mathlib.Core.Path.{_≡_}
 use mathlib.Core.Bool.{true}
-use Prim.Native.Nat.{ℕ, _≤_, _<_}
+use Prim.Native.Nat.{ℕ, _+_, _≤_, _<_}
+use lib.ListN.{length}
 use Rattle.paper.specs.Sets.{Set}
 use Rattle.paper.specs.Trees.{Tree, events, rootFun}
-use Rattle.paper.specs.Nodes.{nodesOf}
+use Rattle.paper.specs.Nodes.{nodesToGate, nodesOf}
 use Rattle.paper.specs.Cuts.{cutNodesNeeded}
 
--- a number of the list and its place; a done answer, and a refusal by 9 to 14, has place 0
+-- a number of the list and its place: that of 10 is the gate being built; a done answer, and a refusal by 9 or by 11 to 14, has place 0
 pub record Verdict : Type 0 where
   pub number : ℕ
   pub place : ℕ
@@ -16,6 +17,12 @@ pub record Verdict : Type 0 where
 -- 10: nodes needed exceeds the capacity
 abbrev pub NodesFull : Tree → ℕ → Type 0
 NodesFull t capacity = capacity < nodesOf t
+
+-- its place: the least gate g for which the nodes needed by gates 0 to g exceed the capacity
+pub record FilledAt (t : Tree) (capacity g : ℕ) : Type 0 where
+  pub inside : g < length (t .gates)
+  pub over : capacity < nodesToGate t (g + 1)
+  pub least : (h : ℕ) → capacity < nodesToGate t (h + 1) → g ≤ h
 
 -- cut nodes needed by the root of a tree
 abbrev pub cutNodesOf : Tree → ℕ

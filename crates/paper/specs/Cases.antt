@@ -3,27 +3,31 @@
 use mathlib.Core.Path.{_≡_, refl}
 use mathlib.Core.Bool.{Bool, true, false, cond}
 use mathlib.Core.List.{List, [], _∷_, map}
-use Prim.Native.Nat.{ℕ, _*_, _^_}
+use Prim.Native.Nat.{ℕ, zero, suc, _+_, _*_, _^_, _≤_, _<_}
 use native.Mathlib.Decide.{ℕ-discrete}
+use native.Mathlib.Omega.{arith}
 use lib.Dec.{ltb}
-use lib.ListN.{getD}
+use lib.ListN.{length, getD}
 use Rattle.paper.specs.Limits.{billion}
+use Rattle.paper.specs.Lists.{upTo}
 use Rattle.paper.specs.Sets.{Set, none, put, members}
 use Rattle.paper.specs.Functions.{Fun, agree, dependsOn}
 use Rattle.paper.specs.Trees.{event, gate, Gate, andG, orG, leastG, Tree, events, constF, gateFuns, rootFun}
 use Rattle.paper.specs.Steps.{stepFuns}
-use Rattle.paper.specs.Nodes.{nodesNeeded, nodesOf}
+use Rattle.paper.specs.Nodes.{nodesNeeded, nodesToGate, nodesOf, nodesAdded}
 use Rattle.paper.specs.Diagrams.{Diagram, leaf, node, diagramOf}
 use Rattle.paper.specs.Cuts.{setsOf, cutList, cutNodesNeeded}
 use Rattle.paper.specs.Order.{fromStart}
 use Rattle.paper.specs.Listing.{memberBytes, cutBytes, setsBytes, fitting, Listed, listed}
 use Rattle.paper.specs.Chance.{total, low, high, standing}
-use Rattle.paper.specs.Answers.{cutNodesOf}
+use Rattle.paper.specs.Answers.{FilledAt, cutNodesOf}
 
 -- what can be asked of a tree
 data Question : Type 0 where
   nodes : Question
   cutNodes : Question
+  -- how many nodes each gate adds
+  added : Question
   -- the number with which a table of this capacity is answered
   nodeTable : ℕ → Question
   cutTable : ℕ → Question
@@ -38,6 +42,7 @@ data Question : Type 0 where
 
 data Answer : Type 0 where
   number : ℕ → Answer
+  numbers : List ℕ → Answer
   sets : List (List ℕ) → Answer
   listing : (answer : ℕ) (cuts : List (List ℕ)) (bytes : List ℕ) (finished : Bool) → Answer
   bracket : (L depends low high exact : ℕ) → Answer
@@ -74,6 +79,7 @@ cutsOf t = cutList (events t) (rootFun (t .gates))
 define : Tree → Question → Answer
 define t nodes = number (nodesOf t)
 define t cutNodes = number (cutNodesOf t)
+define t added = numbers (map (nodesAdded t) (upTo (length (t .gates)) 0))
 define t (nodeTable c) = full 10 c (nodesOf t)
 define t (cutTable c) = full 11 c (cutNodesOf t)
 define t cuts = sets (map (members (events t)) (cutsOf t))
@@ -140,6 +146,7 @@ table =
     -- 1
     row first nodes (number 6)
     ∷ row first cutNodes (number 4)
+    ∷ row first added (numbers (3 ∷ 2 ∷ 1 ∷ []))
     ∷ row first (nodeTable 5) (number 10)
     ∷ row first (nodeTable 6) (number 0)
     ∷ row first (cutTable 3) (number 11)
@@ -164,6 +171,7 @@ table =
     ∷ row absorbed cuts (sets ((0 ∷ []) ∷ []))
     ∷ row absorbed nodes (number 3)
     ∷ row absorbed cutNodes (number 1)
+    ∷ row absorbed added (numbers (3 ∷ 0 ∷ []))
     ∷ row absorbed chance (bracket 1 1 tenth tenth (tenth * billion))
     -- 6
     ∷ row twoOfThree cuts (sets ((0 ∷ 1 ∷ []) ∷ (0 ∷ 2 ∷ []) ∷ (1 ∷ 2 ∷ []) ∷ []))
@@ -192,6 +200,24 @@ as-the-paper-says : map (λ r. define (r .tree) (r .asked)) table ≡ map (λ r.
 unfolding define these full listingOf bracketOf gateOf cutsOf tenth three two first sixth absorbed twoOfThree reversed fourGates one rare twins oneFunction oneNumber row table
     gateFuns rootFun stepFuns nodesNeeded cutList cutNodesNeeded dependsOn memberBytes cutBytes fitting listed total ℕ-discrete
 as-the-paper-says = refl
+
+-- where tables with room for 5, 4 and 2 nodes are full
+as-the-gates-fill : FilledAt first 5 2 × FilledAt first 4 1 × FilledAt first 2 0
+unfolding first three stepFuns nodesNeeded
+as-the-gates-fill = (
+  record { inside = omega arith; over = omega arith; least = λ h q. at-2 h q },
+  record { inside = omega arith; over = omega arith; least = λ h q. at-1 h q },
+  record { inside = omega arith; over = omega arith; least = λ h q. omega arith },
+)
+  where
+    at-2 : (h : ℕ) → 5 < nodesToGate first (h + 1) → 2 ≤ h
+    at-2 zero q = absurd (omega arith)
+    at-2 (suc zero) q = absurd (omega arith)
+    at-2 (suc (suc h)) q = omega arith
+
+    at-1 : (h : ℕ) → 4 < nodesToGate first (h + 1) → 1 ≤ h
+    at-1 zero q = absurd (omega arith)
+    at-1 (suc h) q = omega arith
 
 -- document 002, 4.3: figure 1 without its node of failed branch 0 is {a}, {c}; figure 2 is {a} and the empty set
 as-the-figures-say : map (λ d. map (members 3) (setsOf d)) (node 0 (leaf true) (node 2 (leaf true) (leaf false)) ∷ node 0 (leaf true) (leaf true) ∷ [])

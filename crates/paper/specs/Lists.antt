@@ -3,7 +3,7 @@
 use mathlib.Core.Path.{_≡_}
 use mathlib.Core.Logic.{_⊎_, ite}
 use mathlib.Core.Bool.{Bool, true, false, cond, _&&_}
-use mathlib.Core.List.{List, [], _∷_, _++_}
+use mathlib.Core.List.{List, [], _∷_, _++_, map}
 use Prim.Native.Nat.{ℕ, zero, suc, _+_}
 
 abbrev pub In : {A : Type 0} → A → List A → Type 0
@@ -51,3 +51,7 @@ upTo (suc k) m = m ∷ upTo k (suc m)
 abbrev pub sum : List ℕ → ℕ
 sum [] = 0
 sum (x ∷ xs) = x + sum xs
+
+-- f 0 and so on, n of them, added up
+abbrev pub sumOf : ℕ → (ℕ → ℕ) → ℕ
+sumOf n f = sum (map f (upTo n 0))

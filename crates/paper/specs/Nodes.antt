@@ -2,7 +2,7 @@
 -- Assumes nothing.
 use mathlib.Core.Bool.{Bool}
 use mathlib.Core.List.{List, map}
-use Prim.Native.Nat.{ℕ}
+use Prim.Native.Nat.{ℕ, _+_, _-_}
 use lib.ListN.{take}
 use Rattle.paper.specs.Lists.{keep, flat, distinct}
 use Rattle.paper.specs.Functions.{Fun, fixF, reach, table, table-discrete, varies}
@@ -24,3 +24,7 @@ nodesToGate t g = nodesNeeded (events t) (stepFuns (take g (t .gates)))
 
 abbrev pub nodesOf : Tree → ℕ
 nodesOf t = nodesNeeded (events t) (stepFuns (t .gates))
+
+-- NODES ADDED by gate g: those that gates 0 to g need, less those that the gates before it need; the events that are first used there are among them
+abbrev pub nodesAdded : Tree → ℕ → ℕ
+nodesAdded t g = nodesToGate t (g + 1) - nodesToGate t g

@@ -1,11 +1,11 @@
 -- How many sets have 0, 1, 2 … members: of any sets, of a diagram's family, of a tree's minimal cuts.
 -- Assumes nothing.
-use mathlib.Core.List.{List, map}
+use mathlib.Core.List.{List}
 use Prim.Native.Nat.{ℕ, _+_}
 use lib.Dec.{eqb}
 use lib.ListN.{length}
 use Rattle.paper.specs.Limits.{limits}
-use Rattle.paper.specs.Lists.{keep, upTo, sum}
+use Rattle.paper.specs.Lists.{keep, sumOf}
 use Rattle.paper.specs.Sets.{Set, members}
 use Rattle.paper.specs.Diagrams.{Diagram}
 use Rattle.paper.specs.Trees.{Tree, events, rootFun}
@@ -37,7 +37,7 @@ sizes = limits .events + 1
 
 -- the counts of all sizes, added up
 unfoldable pub together : (ℕ → ℕ) → ℕ
-together count = sum (map count (upTo sizes 0))
+together count = sumOf sizes count
 
 -- THE SMALLEST LENGTH of each area of the counting, by the capacity of the cut table: a number for each node and each leaf
 abbrev pub sizesArea : ℕ → ℕ

@@ -12,17 +12,17 @@ use Rattle.analyser.specs.Analysed.{Analysed}
 use Rattle.promises.specs.Coincide.{Coincide}
 use Rattle.promises.specs.Memo.{withMemo, OtherMemo, SameButMemo}
 use Rattle.memory.specs.declared.Analysis.{Analysis}
-use Rattle.promises.proofs.Coincide.{coincide, same-number}
+use Rattle.promises.proofs.Coincide.{coincide, same-number, same-place}
 
 -- ---- what does not speak of the memo
 
 module _ {m : Memory} (M : List ℕ) where
   lengths : {n : ℕ} → length M % 4 ≡ 0 → Lengths n m → Lengths n (withMemo M m)
-  lengths f l = record { node-table = l .node-table; cut-table = l .cut-table; gate-list = l .gate-list; fours = f; areas = l .areas }
+  lengths f l = record { node-table = l .node-table; cut-table = l .cut-table; gate-list = l .gate-list; added-list = l .added-list; fours = f; areas = l .areas }
 
   module _ {m′ : Memory} (M′ : List ℕ) (z : Zero M M′) where
     all-zero : AllZero m m′ → AllZero (withMemo M m) (withMemo M′ m′)
-    all-zero k = record { nodes = k .nodes; cuts = k .cuts; gates = k .gates; memo = z; heads = k .heads; next = k .next; marks = k .marks; own = k .own }
+    all-zero k = record { nodes = k .nodes; cuts = k .cuts; gates = k .gates; added = k .added; memo = z; heads = k .heads; next = k .next; marks = k .marks; own = k .own }
 
     done : {t : Tree} {a : Analysis} → Done t m m′ a → Done t (withMemo M m) (withMemo M′ m′) a
     done d = record {
@@ -37,7 +37,9 @@ module _ {m : Memory} (M : List ℕ) where
       nodes-long = d .nodes-long;
       cuts-long = d .cuts-long;
       gates-long = d .gates-long;
+      added-long = d .added-long;
       gate-list = d .gate-list;
+      added-list = d .added-list;
       root-is = d .root-is;
       cuts-are = d .cuts-are;
       memo = z;
@@ -53,7 +55,7 @@ module _ {m : Memory} (M : List ℕ) where
 memo-long : {bytes : List ℕ} {m m′ : Memory} {a : Analysis} → Analysed bytes m m′ a → length (m′ .memo) ≡ length (m .memo)
 memo-long (Analysed.bad-tree w p r k) = ap (λ (x : Memory). length (x .memo)) k
 memo-long (Analysed.bad-length b p n r k) = ap (λ (x : Memory). length (x .memo)) k
-memo-long {m = m} (Analysed.nodes-full b p n f r z) = ap length (z .memo) ∙ length-replicate (length (m .memo)) 0
+memo-long {m = m} (Analysed.nodes-full b g p n f r z) = ap length (z .memo) ∙ length-replicate (length (m .memo)) 0
 memo-long {m = m} (Analysed.cuts-full b p n f g r z) = ap length (z .memo) ∙ length-replicate (length (m .memo)) 0
 memo-long {m = m} (Analysed.done b p n f g d) = ap length (d .memo) ∙ length-replicate (length (m .memo)) 0
 
@@ -62,7 +64,7 @@ module _ {m : Memory} (M : List ℕ) (f : length (m .memo) % 4 ≡ 0) (f′ : le
   moved : {bytes : List ℕ} {m′ : Memory} {a : Analysis} → Analysed bytes m m′ a → (M′ : List ℕ) × Analysed bytes (withMemo M m) (withMemo M′ m′) a
   moved (Analysed.bad-tree w p r k) = (M, Analysed.bad-tree w p r (ap (withMemo M) k))
   moved (Analysed.bad-length b p n r k) = (M, Analysed.bad-length b p (λ l. n (lengths (m .memo) f l)) r (ap (withMemo M) k))
-  moved (Analysed.nodes-full b p l x r z) = (replicate (length M) 0, Analysed.nodes-full b p (lengths M f′ l) x r (all-zero M (replicate (length M) 0) refl z))
+  moved (Analysed.nodes-full b g p l x r z) = (replicate (length M) 0, Analysed.nodes-full b g p (lengths M f′ l) x r (all-zero M (replicate (length M) 0) refl z))
   moved (Analysed.cuts-full b p l x y r z) = (replicate (length M) 0, Analysed.cuts-full b p (lengths M f′ l) x y r (all-zero M (replicate (length M) 0) refl z))
   moved (Analysed.done b p l x y d) = (replicate (length M) 0, Analysed.done b p (lengths M f′ l) x y (done M (replicate (length M) 0) refl d))
 
@@ -71,10 +73,6 @@ module _ {m : Memory} (M : List ℕ) (f : length (m .memo) % 4 ≡ 0) (f′ : le
 same-memo : {m m′ : Memory} {a a′ : Analysis} → Coincide m m′ a a′ → m′ .memo ≡ m .memo
 same-memo (Coincide.refused n e k) = ap (λ (x : Memory). x .memo) k
 same-memo (Coincide.done n r) = r .memo
-
-same-place : {m m′ : Memory} {a a′ : Analysis} → Coincide m m′ a a′ → a′ .place ≡ a .place
-same-place (Coincide.refused n e k) = ap (λ (x : Analysis). x .place) e
-same-place (Coincide.done n r) = r .place
 
 same-nodes : {m m′ : Memory} {a a′ : Analysis} → Coincide m m′ a a′ → a′ .nodes ≡ a .nodes
 same-nodes (Coincide.refused n e k) = ap (λ (x : Analysis). x .nodes) e

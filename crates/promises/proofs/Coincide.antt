@@ -6,12 +6,14 @@ use mathlib.Core.List.{List}
 use Prim.Native.Nat.{ℕ, _-_, _≤_, _<_}
 use native.Mathlib.Omega.{arith}
 use lib.ListN.{length, getD}
-use Rattle.paper.specs.Answers.{Verdict, NodesFull, CutsFull}
+use lib.Seq.{ext-getD}
+use Rattle.paper.specs.Answers.{Verdict, NodesFull, FilledAt, CutsFull}
 use Rattle.paper.specs.Limits.{limits}
 use Rattle.paper.specs.Lists.{In}
 use Rattle.paper.specs.Trees.{Tree, events}
 use Rattle.paper.specs.Diagrams.{Diagram, Ordered}
 use Rattle.paper.specs.Cuts.{setsOf, Suppressed}
+use Rattle.algebra.proofs.Prefixes.{filled-full, filled-once}
 use Rattle.algebra.proofs.Plain.{Good, canonical}
 use Rattle.algebra.proofs.Order.{sets-complete}
 use Rattle.algebra.proofs.Families.{canonical-family}
@@ -24,7 +26,7 @@ use Rattle.records.specs.Judge.{Book, accept, refuse, outcome}
 use Rattle.records.specs.Trees.{treeOf}
 use Rattle.rules.specs.declared.Answer.{Answer}
 use Rattle.memory.specs.Memory.{Memory, Lengths, AllZero, capacity}
-use Rattle.memory.specs.Outcome.{Refused, Done}
+use Rattle.memory.specs.Outcome.{Refused, at, Done}
 use Rattle.analyser.specs.Analysed.{Analysed}
 use Rattle.promises.specs.Coincide.{Renumbering, Renumbered, Coincide}
 use Rattle.memory.specs.declared.Analysis.{Analysis}
@@ -73,6 +75,14 @@ module _ {t : Tree} {m m₁ m₂ : Memory} {a₁ a₂ : Analysis} (d : Done t m 
           (gate-in i h ∙ sym (nodes .denotes (getD (m₁ .gates) i 0) (d .gate-list .stored i h)))
       go (inr h) = e .gate-list .behind i h ∙ sym (nodes .leaf-0) ∙ ap (λ x. nodes .to x) (sym (d .gate-list .behind i h))
 
+  -- what each gate adds is a fact of the tree
+  same-added : m₂ .added ≡ m₁ .added
+  same-added = ext-getD 0 (m₂ .added) (m₁ .added) (e .added-long ∙ sym (d .added-long)) (λ i _. go i (below-or-not i (length (t .gates))))
+    where
+      go : (i : ℕ) → (i < length (t .gates)) ⊎ (length (t .gates) ≤ i) → getD (m₂ .added) i 0 ≡ getD (m₁ .added) i 0
+      go i (inl h) = e .added-list .each i h ∙ sym (d .added-list .each i h)
+      go i (inr h) = e .added-list .behind i h ∙ sym (d .added-list .behind i h)
+
   same-family : den (m₂ .cuts) (a₂ .«cut_root») ≡ den (m₁ .cuts) (a₁ .«cut_root»)
   same-family = same-sets (events t) (den (m₂ .cuts) (a₂ .«cut_root»)) (den (m₁ .cuts) (a₁ .«cut_root»))
       (root-ordered (e .cut-table .lent)) (root-ordered (d .cut-table .lent)) (root-suppressed (e .cut-table .lent)) (root-suppressed (d .cut-table .lent)) (e .cuts-are ∙ sym (d .cuts-are))
@@ -87,6 +97,7 @@ module _ {t : Tree} {m m₁ m₂ : Memory} {a₁ a₂ : Analysis} (d : Done t m 
     cut-table = cuts;
     gates = gate;
     gates-long = e .gates-long ∙ sym (d .gates-long);
+    added = same-added;
     root = e .root-is ∙ gate (length (t .gates) - 1) ∙ ap (λ x. nodes .to x) (sym (d .root-is));
     cut-root = den-inj (lent-lower (e .cut-table .lent)) (e .cut-table .unique) (e .cut-table .lent .root-in) (cuts .to-in (a₁ .«cut_root») (d .cut-table .lent .root-in))
         (same-family ∙ sym (cuts .denotes (a₁ .«cut_root») (d .cut-table .lent .root-in)));
@@ -114,6 +125,7 @@ same-zero {m} {m₁} {m₂} r s = λ i. record {
   nodes = (s .nodes ∙ sym (r .nodes)) i;
   cuts = (s .cuts ∙ sym (r .cuts)) i;
   gates = (s .gates ∙ sym (r .gates)) i;
+  added = (s .added ∙ sym (r .added)) i;
   memo = (s .memo ∙ sym (r .memo)) i;
   heads = (s .heads ∙ sym (r .heads)) i;
   next = (s .next ∙ sym (r .next)) i;
@@ -138,8 +150,11 @@ module _ {b c : Book} (same : c ≡ b) (m : Memory) where
   long : Lengths (length (treeOf c .gates)) m → Lengths (length (treeOf b .gates)) m
   long = subst (λ x. Lengths (length (treeOf x .gates)) m) same
 
-  full : NodesFull (treeOf c) (capacity (m .nodes)) → NodesFull (treeOf b) (capacity (m .nodes))
-  full = subst (λ x. NodesFull (treeOf x) (capacity (m .nodes))) same
+  full-at : {g : ℕ} → FilledAt (treeOf c) (capacity (m .nodes)) g → FilledAt (treeOf b) (capacity (m .nodes)) g
+  full-at {g} = subst (λ x. FilledAt (treeOf x) (capacity (m .nodes)) g) same
+
+  full : {g : ℕ} → FilledAt (treeOf c) (capacity (m .nodes)) g → NodesFull (treeOf b) (capacity (m .nodes))
+  full f = filled-full (treeOf b) (capacity (m .nodes)) (full-at f)
 
   cuts-full : CutsFull (treeOf c) (capacity (m .cuts)) → CutsFull (treeOf b) (capacity (m .cuts))
   cuts-full = subst (λ x. CutsFull (treeOf x) (capacity (m .cuts))) same
@@ -156,30 +171,35 @@ module _ {bytes : List ℕ} {m m₁ m₂ : Memory} {a₁ a₂ : Analysis} where
   coincide (Analysed.bad-tree w p r k) (Analysed.bad-tree v q s l) =
       refusing (refusal-range bytes w p .0) r (subst (λ x. Refused (verdict x) a₂) (same-answer bytes p q) s) (l ∙ sym k)
   coincide (Analysed.bad-tree w p r k) (Analysed.bad-length c q n s l) = absurd (not-both bytes p q)
-  coincide (Analysed.bad-tree w p r k) (Analysed.nodes-full c q n f s l) = absurd (not-both bytes p q)
+  coincide (Analysed.bad-tree w p r k) (Analysed.nodes-full c i q n f s l) = absurd (not-both bytes p q)
   coincide (Analysed.bad-tree w p r k) (Analysed.cuts-full c q n f g s l) = absurd (not-both bytes p q)
   coincide (Analysed.bad-tree w p r k) (Analysed.done c q n f g s) = absurd (not-both bytes p q)
   coincide (Analysed.bad-length b p n r k) (Analysed.bad-tree v q s l) = absurd (not-both bytes q p)
   coincide (Analysed.bad-length b p n r k) (Analysed.bad-length c q n′ s l) = refusing (omega arith) r s (l ∙ sym k)
-  coincide (Analysed.bad-length b p n r k) (Analysed.nodes-full c q n′ f s l) = absurd (n (long (same-book bytes p q) m n′))
+  coincide (Analysed.bad-length b p n r k) (Analysed.nodes-full c i q n′ f s l) = absurd (n (long (same-book bytes p q) m n′))
   coincide (Analysed.bad-length b p n r k) (Analysed.cuts-full c q n′ f g s l) = absurd (n (long (same-book bytes p q) m n′))
   coincide (Analysed.bad-length b p n r k) (Analysed.done c q n′ f g s) = absurd (n (long (same-book bytes p q) m n′))
-  coincide (Analysed.nodes-full b p n f r k) (Analysed.bad-tree v q s l) = absurd (not-both bytes q p)
-  coincide (Analysed.nodes-full b p n f r k) (Analysed.bad-length c q n′ s l) = absurd (n′ (long (same-book bytes q p) m n))
-  coincide (Analysed.nodes-full b p n f r k) (Analysed.nodes-full c q n′ f′ s l) = refusing (omega arith) r s (same-zero k l)
-  coincide (Analysed.nodes-full b p n f r k) (Analysed.cuts-full c q n′ f′ g′ s l) = absurd (f′ (full (same-book bytes q p) m f))
-  coincide (Analysed.nodes-full b p n f r k) (Analysed.done c q n′ f′ g′ s) = absurd (f′ (full (same-book bytes q p) m f))
+  coincide (Analysed.nodes-full b h p n f r k) (Analysed.bad-tree v q s l) = absurd (not-both bytes q p)
+  coincide (Analysed.nodes-full b h p n f r k) (Analysed.bad-length c q n′ s l) = absurd (n′ (long (same-book bytes q p) m n))
+  coincide (Analysed.nodes-full b h p n f r k) (Analysed.nodes-full c i q n′ f′ s l) =
+      refusing (omega arith) r (subst (λ g. Refused (at 10 g) a₂) (filled-once (treeOf b) (capacity (m .nodes)) (full-at (same-book bytes p q) m f′) f) s) (same-zero k l)
+  coincide (Analysed.nodes-full b h p n f r k) (Analysed.cuts-full c q n′ f′ g′ s l) = absurd (f′ (full (same-book bytes q p) m f))
+  coincide (Analysed.nodes-full b h p n f r k) (Analysed.done c q n′ f′ g′ s) = absurd (f′ (full (same-book bytes q p) m f))
   coincide (Analysed.cuts-full b p n f g r k) (Analysed.bad-tree v q s l) = absurd (not-both bytes q p)
   coincide (Analysed.cuts-full b p n f g r k) (Analysed.bad-length c q n′ s l) = absurd (n′ (long (same-book bytes q p) m n))
-  coincide (Analysed.cuts-full b p n f g r k) (Analysed.nodes-full c q n′ f′ s l) = absurd (f (full (same-book bytes p q) m f′))
+  coincide (Analysed.cuts-full b p n f g r k) (Analysed.nodes-full c i q n′ f′ s l) = absurd (f (full (same-book bytes p q) m f′))
   coincide (Analysed.cuts-full b p n f g r k) (Analysed.cuts-full c q n′ f′ g′ s l) = refusing (omega arith) r s (same-zero k l)
   coincide (Analysed.cuts-full b p n f g r k) (Analysed.done c q n′ f′ g′ s) = absurd (g′ (cuts-full (same-book bytes q p) m g))
   coincide (Analysed.done b p n f g r) (Analysed.bad-tree v q s l) = absurd (not-both bytes q p)
   coincide (Analysed.done b p n f g r) (Analysed.bad-length c q n′ s l) = absurd (n′ (long (same-book bytes q p) m n))
-  coincide (Analysed.done b p n f g r) (Analysed.nodes-full c q n′ f′ s l) = absurd (f (full (same-book bytes p q) m f′))
+  coincide (Analysed.done b p n f g r) (Analysed.nodes-full c i q n′ f′ s l) = absurd (f (full (same-book bytes p q) m f′))
   coincide (Analysed.done b p n f g r) (Analysed.cuts-full c q n′ f′ g′ s l) = absurd (g (cuts-full (same-book bytes p q) m g′))
   coincide (Analysed.done b p n f g r) (Analysed.done c q n′ f′ g′ s) = Coincide.done (r .number) (done-renumbered r (finished (same-book bytes p q) m s))
 
 pub same-number : {m m′ : Memory} {a a′ : Analysis} → Coincide m m′ a a′ → a′ .number ≡ a .number
 same-number (Coincide.refused n e k) = ap (λ (x : Analysis). x .number) e
 same-number (Coincide.done n r) = r .number
+
+pub same-place : {m m′ : Memory} {a a′ : Analysis} → Coincide m m′ a a′ → a′ .place ≡ a .place
+same-place (Coincide.refused n e k) = ap (λ (x : Analysis). x .place) e
+same-place (Coincide.done n r) = r .place

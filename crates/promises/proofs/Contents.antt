@@ -6,7 +6,7 @@ use mathlib.Core.Logic.{_⊎_, inl, inr}
 use mathlib.Core.List.{List}
 use Prim.Native.Nat.{ℕ, _/_}
 use Rattle.paper.specs.Trees.{Tree}
-use Rattle.paper.specs.Answers.{NodesFull, CutsFull}
+use Rattle.paper.specs.Answers.{NodesFull, FilledAt, CutsFull}
 use Rattle.records.specs.Trees.{treeOf}
 use Rattle.memory.specs.Memory.{Memory, capacity}
 use Rattle.analyser.specs.Analysed.{Analysed}
@@ -19,6 +19,7 @@ module _ {m k : Memory} (s : SameLengths m k) where
     nodes = sym (s .nodes);
     cuts = sym (s .cuts);
     gates = sym (s .gates);
+    added = sym (s .added);
     memo = sym (s .memo);
     heads = sym (s .heads);
     next = sym (s .next);
@@ -26,8 +27,8 @@ module _ {m k : Memory} (s : SameLengths m k) where
     own = sym (s .own);
   }
 
-  pub nodes-full : (t : Tree) → NodesFull t (capacity (k .nodes)) → NodesFull t (capacity (m .nodes))
-  nodes-full t = subst (λ n. NodesFull t (n / 3)) (s .nodes)
+  pub filled-at : (t : Tree) {g : ℕ} → FilledAt t (capacity (k .nodes)) g → FilledAt t (capacity (m .nodes)) g
+  filled-at t {g} = subst (λ n. FilledAt t (n / 3) g) (s .nodes)
 
   pub nodes-full-back : (t : Tree) → NodesFull t (capacity (m .nodes)) → NodesFull t (capacity (k .nodes))
   nodes-full-back t = subst (λ n. NodesFull t (n / 3)) (sym (s .nodes))
@@ -41,7 +42,7 @@ module _ {m k : Memory} (s : SameLengths m k) where
   pub any-contents : {bytes : List ℕ} {m′ : Memory} {a : Analysis} → Analysed bytes k m′ a → Analysed bytes m m′ a ⊎ ((m′ ≡ k) × Analysed bytes m m a)
   any-contents (Analysed.bad-tree w p r e) = inr (e, Analysed.bad-tree w p r refl)
   any-contents (Analysed.bad-length b p n r e) = inr (e, Analysed.bad-length b p (λ l. n (lengths-from s l)) r refl)
-  any-contents (Analysed.nodes-full b p l f r z) = inl (Analysed.nodes-full b p (lengths-from other-way l) (nodes-full (treeOf b) f) r (all-zero-from s z))
+  any-contents (Analysed.nodes-full b g p l f r z) = inl (Analysed.nodes-full b g p (lengths-from other-way l) (filled-at (treeOf b) f) r (all-zero-from s z))
   any-contents (Analysed.cuts-full b p l f g r z) =
       inl (Analysed.cuts-full b p (lengths-from other-way l) (λ h. f (nodes-full-back (treeOf b) h)) (cuts-full (treeOf b) g) r (all-zero-from s z))
   any-contents (Analysed.done b p l f g d) =

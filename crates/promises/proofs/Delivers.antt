@@ -16,6 +16,7 @@ use Rattle.promises.specs.Delivers.{Exact, Faithful, Listed, Near, Deliv
 use Rattle.promises.specs.Reasons.{Accepted}
 use Rattle.memory.specs.declared.Analysis.{Analysis}
 use Rattle.analysis.proofs.Reading.{read-sound}
+use Rattle.promises.proofs.Added.{adds-up}
 use Rattle.promises.proofs.Promises.{root-function, gates-agree, functions-apart, families-apart}
 use Rattle.promises.proofs.OnTables.{list-takes, list-no-other, bracket-takes, bracket-encloses, own-answers, cuts-exactly, cuts-sorted, cuts-once, cuts-decide}
 use Rattle.promises.proofs.Serving.{serves, hands-on}
@@ -26,7 +27,7 @@ module _ (b : Book) (l : Lawful limits b) {m m′ : Memory} {a : Analysis} (d : 
   sound = read-sound b l
 
   exactly : Exact (treeOf b) m′ a
-  exactly = record { nodes = d .node-count; cut-nodes = d .cut-count; functions = d .nodes-needed; functions-apart = functions-apart d; families = d .cuts-needed; families-apart = families-apart d }
+  exactly = record { nodes = d .node-count; cut-nodes = d .cut-count; added = d .added-list .each; adds-up = adds-up d; functions = d .nodes-needed; functions-apart = functions-apart d; families = d .cuts-needed; families-apart = families-apart d }
 
   faithfully : Faithful (treeOf b) m′ a
   faithfully = record {

@@ -18,7 +18,7 @@ use Rattle.promises.proofs.Coincide.{coincide}
 same-reading : {bytes bytes′ : List ℕ} → outcome limits bytes′ ≡ outcome limits bytes → {m m′ : Memory} {a : Analysis} → Analysed bytes m m′ a → Analysed bytes′ m m′ a
 same-reading e (Analysed.bad-tree w p r k) = Analysed.bad-tree w (e ∙ p) r k
 same-reading e (Analysed.bad-length b p n r k) = Analysed.bad-length b (e ∙ p) n r k
-same-reading e (Analysed.nodes-full b p n f r k) = Analysed.nodes-full b (e ∙ p) n f r k
+same-reading e (Analysed.nodes-full b g p n f r k) = Analysed.nodes-full b g (e ∙ p) n f r k
 same-reading e (Analysed.cuts-full b p n f g r k) = Analysed.cuts-full b (e ∙ p) n f g r k
 same-reading e (Analysed.done b p n f g d) = Analysed.done b (e ∙ p) n f g d
 

@@ -5,6 +5,7 @@ pub mod Contents
 pub mod FirstBytes
 pub mod AnyMemo
 pub mod Which
+pub mod Added
 pub mod Unseen
 pub mod Promises
 pub mod SameGates

@@ -7,7 +7,8 @@ use Prim.Native.Nat.{ℕ}
 use native.Mathlib.Omega.{arith}
 use lib.ListN.{length, replicate}
 use Rattle.paper.specs.Limits.{limits}
-use Rattle.paper.specs.Answers.{NodesFull, CutsFull}
+use Rattle.paper.specs.Answers.{NodesFull, FilledAt, CutsFull}
+use Rattle.algebra.proofs.Prefixes.{filled-full, full-filled}
 use Rattle.rules.specs.Answers.{verdict}
 use Rattle.records.specs.Judge.{refuse, outcome}
 use Rattle.records.specs.Trees.{treeOf}
@@ -16,9 +17,9 @@ use Rattle.memory.specs.Memory.{Memory, Lengths, AllZero, capacity}
 use Rattle.memory.specs.Outcome.{Refused, at, Done}
 use Rattle.analyser.specs.Analysed.{Analysed}
 use Rattle.memory.specs.declared.Analysis.{Analysis}
-use Rattle.promises.specs.Reasons.{OneToEight, BadTree, Accepted, Long, TooManyNodes, TooManyCuts}
+use Rattle.promises.specs.Reasons.{OneToEight, BadTree, Accepted, Long, TooManyNodes, FullAt, TooManyCuts}
 use Rattle.promises.proofs.Refusals.{refusal-range}
-use Rattle.promises.proofs.Coincide.{same-answer, same-book, not-both, coincide, same-number}
+use Rattle.promises.proofs.Coincide.{same-answer, same-book, not-both, coincide, same-number, same-place}
 
 -- ---- an outcome for each refusal
 
@@ -37,6 +38,7 @@ zeroed m = record {
   nodes = empty (m .nodes);
   cuts = empty (m .cuts);
   gates = empty (m .gates);
+  added = empty (m .added);
   memo = empty (m .memo);
   heads = empty (m .heads);
   next = empty (m .next);
@@ -46,7 +48,7 @@ zeroed m = record {
 
 all-zeroed : (m : Memory) → AllZero m (zeroed m)
 unfolding zeroed empty
-all-zeroed m = record { nodes = refl; cuts = refl; gates = refl; memo = refl; heads = refl; next = refl; marks = refl; own = refl }
+all-zeroed m = record { nodes = refl; cuts = refl; gates = refl; added = refl; memo = refl; heads = refl; next = refl; marks = refl; own = refl }
 
 -- ---- what a number says
 
@@ -54,28 +56,28 @@ module _ {bytes : List ℕ} {m m′ : Memory} {a : Analysis} where
   from-tree : Analysed bytes m m′ a → OneToEight (a .number) → BadTree bytes (a .number) (a .place)
   from-tree (Analysed.bad-tree w p r k) q = record { answer = w; refused = p; number-is = r .number; place-is = r .place }
   from-tree (Analysed.bad-length b p n r k) q = absurd (let e = r .number in omega arith)
-  from-tree (Analysed.nodes-full b p n f r k) q = absurd (let e = r .number in omega arith)
+  from-tree (Analysed.nodes-full b i p n f r k) q = absurd (let e = r .number in omega arith)
   from-tree (Analysed.cuts-full b p n f g r k) q = absurd (let e = r .number in omega arith)
   from-tree (Analysed.done b p n f g r) q = absurd (let e = r .number in omega arith)
 
   from-nine : Analysed bytes m m′ a → a .number ≡ 9 → (t : Accepted bytes) × (Long t m → ⊥)
   from-nine (Analysed.bad-tree w p r k) q = absurd (let e = r .number in let (l, h) = refusal-range bytes w p in omega arith)
   from-nine (Analysed.bad-length b p n r k) q = (record { book = b; is = p }, n)
-  from-nine (Analysed.nodes-full b p n f r k) q = absurd (let e = r .number in omega arith)
+  from-nine (Analysed.nodes-full b i p n f r k) q = absurd (let e = r .number in omega arith)
   from-nine (Analysed.cuts-full b p n f g r k) q = absurd (let e = r .number in omega arith)
   from-nine (Analysed.done b p n f g r) q = absurd (let e = r .number in omega arith)
 
-  from-ten : Analysed bytes m m′ a → a .number ≡ 10 → (t : Accepted bytes) × Long t m × TooManyNodes t m
+  from-ten : Analysed bytes m m′ a → a .number ≡ 10 → (t : Accepted bytes) × Long t m × FullAt t m (a .place)
   from-ten (Analysed.bad-tree w p r k) q = absurd (let e = r .number in let (l, h) = refusal-range bytes w p in omega arith)
   from-ten (Analysed.bad-length b p n r k) q = absurd (let e = r .number in omega arith)
-  from-ten (Analysed.nodes-full b p n f r k) q = (record { book = b; is = p }, n, f)
+  from-ten (Analysed.nodes-full b i p n f r k) q = (record { book = b; is = p }, n, subst (λ g. FilledAt (treeOf b) (capacity (m .nodes)) g) (sym (r .place)) f)
   from-ten (Analysed.cuts-full b p n f g r k) q = absurd (let e = r .number in omega arith)
   from-ten (Analysed.done b p n f g r) q = absurd (let e = r .number in omega arith)
 
   from-eleven : Analysed bytes m m′ a → a .number ≡ 11 → (t : Accepted bytes) × Long t m × (TooManyNodes t m → ⊥) × TooManyCuts t m
   from-eleven (Analysed.bad-tree w p r k) q = absurd (let e = r .number in let (l, h) = refusal-range bytes w p in omega arith)
   from-eleven (Analysed.bad-length b p n r k) q = absurd (let e = r .number in omega arith)
-  from-eleven (Analysed.nodes-full b p n f r k) q = absurd (let e = r .number in omega arith)
+  from-eleven (Analysed.nodes-full b i p n f r k) q = absurd (let e = r .number in omega arith)
   from-eleven (Analysed.cuts-full b p n f g r k) q = (record { book = b; is = p }, n, f, g)
   from-eleven (Analysed.done b p n f g r) q = absurd (let e = r .number in omega arith)
 
@@ -83,7 +85,7 @@ module _ {bytes : List ℕ} {m m′ : Memory} {a : Analysis} where
   pub from-done : Analysed bytes m m′ a → a .number ≡ 0 → (t : Accepted bytes) × Long t m × (TooManyNodes t m → ⊥) × (TooManyCuts t m → ⊥) × Done (treeOf (t .book)) m m′ a
   from-done (Analysed.bad-tree w p r k) q = absurd (let e = r .number in let (l, h) = refusal-range bytes w p in omega arith)
   from-done (Analysed.bad-length b p n r k) q = absurd (let e = r .number in omega arith)
-  from-done (Analysed.nodes-full b p n f r k) q = absurd (let e = r .number in omega arith)
+  from-done (Analysed.nodes-full b i p n f r k) q = absurd (let e = r .number in omega arith)
   from-done (Analysed.cuts-full b p n f g r k) q = absurd (let e = r .number in omega arith)
   from-done (Analysed.done b p n f g r) q = (record { book = b; is = p }, n, f, g, r)
 
@@ -93,7 +95,7 @@ module _ {bytes : List ℕ} {m m′ : Memory} {a : Analysis} where
   to-done : Analysed bytes m m′ a → ((t : Accepted bytes) × Long t m × (TooManyNodes t m → ⊥) × (TooManyCuts t m → ⊥)) → a .number ≡ 0
   to-done (Analysed.bad-tree w p r k) (t, l, g, z) = absurd (not-both bytes p (t .is))
   to-done (Analysed.bad-length b p n r k) (t, l, g, z) = absurd (n (subst (λ x. Lengths (length (treeOf x .gates)) m) (same-book bytes p (t .is)) l))
-  to-done (Analysed.nodes-full b p n f r k) (t, l, g, z) = absurd (g (subst (λ x. NodesFull (treeOf x) (capacity (m .nodes))) (same-book bytes (t .is) p) f))
+  to-done (Analysed.nodes-full b i p n f r k) (t, l, g, z) = absurd (g (subst (λ x. NodesFull (treeOf x) (capacity (m .nodes))) (same-book bytes (t .is) p) (filled-full (treeOf b) (capacity (m .nodes)) f)))
   to-done (Analysed.cuts-full b p n f g r k) (t, l, y, z) = absurd (z (subst (λ x. CutsFull (treeOf x) (capacity (m .cuts))) (same-book bytes (t .is) p) g))
   to-done (Analysed.done b p n f g r) z = r .number
 
@@ -104,6 +106,10 @@ module _ {bytes : List ℕ} {m m′ : Memory} {a : Analysis} (x : Analysed bytes
   is-number : {m″ : Memory} (number place : ℕ) → Analysed bytes m m″ (answer number place) → a .number ≡ number
   unfolding answer
   is-number number place y = same-number (coincide y x)
+
+  is-so : {m″ : Memory} (number place : ℕ) → Analysed bytes m m″ (answer number place) → (a .number ≡ number) × (a .place ≡ place)
+  unfolding answer
+  is-so number place y = let c = coincide y x in (same-number c, same-place c)
 
   -- 1 to 8 exactly when the bytes are refused, and then with their number and place
   pub one-to-eight : OneToEight (a .number) ↔ BadTree bytes (a .number) (a .place)
@@ -120,7 +126,17 @@ module _ {bytes : List ℕ} {m m′ : Memory} {a : Analysis} (x : Analysed bytes
 
   -- 10 exactly when, with right lengths, more nodes are needed than the node table has room for
   pub ten : (a .number ≡ 10) ↔ ((t : Accepted bytes) × Long t m × TooManyNodes t m)
-  ten = (from-ten x, λ (t, n, f). is-number 10 0 (Analysed.nodes-full (t .book) (t .is) n f (answers 10 0) (all-zeroed m)))
+  ten = (
+    (λ q. let (t, n, f) = from-ten x q in (t, n, filled-full (treeOf (t .book)) (capacity (m .nodes)) f)),
+    (λ (t, n, f). let (g, i) = full-filled (treeOf (t .book)) (capacity (m .nodes)) f in is-number 10 g (Analysed.nodes-full (t .book) g (t .is) n i (answers 10 g) (all-zeroed m))),
+  )
+
+  -- and then its place is the gate being built, the least with which the nodes needed exceed that room
+  pub ten-at : (g : ℕ) → ((a .number ≡ 10) × (a .place ≡ g)) ↔ ((t : Accepted bytes) × Long t m × FullAt t m g)
+  ten-at g = (
+    (λ (q, e). let (t, n, f) = from-ten x q in (t, n, subst (λ h. FullAt t m h) e f)),
+    (λ (t, n, f). is-so 10 g (Analysed.nodes-full (t .book) g (t .is) n f (answers 10 g) (all-zeroed m))),
+  )
 
   -- 11 exactly when, not 10, more cut nodes are needed than the cut table has room for
   pub eleven : (a .number ≡ 11) ↔ ((t : Accepted bytes) × Long t m × (TooManyNodes t m → ⊥) × TooManyCuts t m)

@@ -38,6 +38,7 @@ pub record Renumbered (m m′ : Memory) (a a′ : Analysis) : Type 0 where
   pub cut-table : Renumbering (m .cuts) (m′ .cuts) (a .«cut_nodes») (a′ .«cut_nodes»)
   pub gates : (i : ℕ) → getD (m′ .gates) i 0 ≡ node-table .to (getD (m .gates) i 0)
   pub gates-long : length (m′ .gates) ≡ length (m .gates)
+  pub added : m′ .added ≡ m .added
   pub root : a′ .root ≡ node-table .to (a .root)
   pub cut-root : a′ .«cut_root» ≡ cut-table .to (a .«cut_root»)
   pub memo : m′ .memo ≡ m .memo

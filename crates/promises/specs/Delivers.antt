@@ -7,12 +7,12 @@ use mathlib.Core.List.{List}
 use Prim.Native.Nat.{ℕ, _+_, _-_, _*_, _≤_, _<_}
 use lib.ListN.{length, getD}
 use Rattle.paper.specs.Limits.{billion}
-use Rattle.paper.specs.Lists.{In, Once}
+use Rattle.paper.specs.Lists.{In, Once, sum}
 use Rattle.paper.specs.Sets.{Set, Part, Within}
 use Rattle.paper.specs.Functions.{Fun, dependsOn}
 use Rattle.paper.specs.Trees.{Tree, events, constF, gateFuns, rootFun}
 use Rattle.paper.specs.Steps.{stepFuns}
-use Rattle.paper.specs.Nodes.{needed, nodesOf}
+use Rattle.paper.specs.Nodes.{needed, nodesOf, nodesAdded}
 use Rattle.paper.specs.Diagrams.{eval}
 use Rattle.paper.specs.Cuts.{MinimalCut, setsOf, cutsNeeded}
 use Rattle.paper.specs.Order.{Sorted}
@@ -35,10 +35,12 @@ gateOf t i = getD (gateFuns (t .gates)) i (constF false)
 abbrev pub cutsIn : Memory → Analysis → List Set
 cutsIn m a = setsOf (den (m .cuts) (a .«cut_root»))
 
--- 1. EXACT: as many nodes as needed; every needed function and family has a node, there is no other node, and no two numbers say the same
+-- 1. EXACT: as many nodes as needed, and of each gate as many as it adds; every needed function and family has a node, there is no other node, and no two numbers say the same
 pub record Exact (t : Tree) (m : Memory) (a : Analysis) : Type 0 where
   pub nodes : a .nodes ≡ nodesOf t
   pub cut-nodes : a .«cut_nodes» ≡ cutNodesOf t
+  pub added : (g : ℕ) → g < length (t .gates) → getD (m .added) g 0 ≡ nodesAdded t g
+  pub adds-up : sum (m .added) ≡ a .nodes
   pub functions : Holds (functionOf (events t) (m .nodes)) (a .nodes) (needed (events t) (stepFuns (t .gates)))
   pub functions-apart : (i j : ℕ) → i < a .nodes + 2 → j < a .nodes + 2 → functionOf (events t) (m .nodes) i ≡ functionOf (events t) (m .nodes) j → i ≡ j
   pub families : Holds (familyOf (events t) (m .cuts)) (a .«cut_nodes») (cutsNeeded (events t) (rootFun (t .gates)))

@@ -10,7 +10,7 @@ use Rattle.promises.specs.Coincide.{Coincide}
 
 -- m with another memo
 abbrev pub withMemo : List ℕ → Memory → Memory
-withMemo M m = memory (m .nodes) (m .cuts) (m .gates) M (m .heads) (m .next) (m .marks) (m .own)
+withMemo M m = memory (m .nodes) (m .cuts) (m .gates) (m .added) M (m .heads) (m .next) (m .marks) (m .own)
 
 -- k is m but for the memo, and both memos have a length that the rules allow
 pub record OtherMemo (m k : Memory) : Type 0 where

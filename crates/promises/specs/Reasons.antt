@@ -5,7 +5,7 @@ use mathlib.Core.List.{List}
 use Prim.Native.Nat.{ℕ, _≤_}
 use lib.ListN.{length}
 use Rattle.paper.specs.Limits.{limits}
-use Rattle.paper.specs.Answers.{NodesFull, CutsFull}
+use Rattle.paper.specs.Answers.{NodesFull, FilledAt, CutsFull}
 use Rattle.rules.specs.Answers.{verdict}
 use Rattle.records.specs.Judge.{Book, accept, refuse, outcome}
 use Rattle.records.specs.Trees.{treeOf}
@@ -34,6 +34,10 @@ module _ {bytes : List ℕ} (t : Accepted bytes) (m : Memory) where
 
   abbrev pub TooManyNodes : Type 0
   TooManyNodes = NodesFull (treeOf (t .book)) (capacity (m .nodes))
+
+  -- at gate g
+  abbrev pub FullAt : ℕ → Type 0
+  FullAt g = FilledAt (treeOf (t .book)) (capacity (m .nodes)) g
 
   abbrev pub TooManyCuts : Type 0
   TooManyCuts = CutsFull (treeOf (t .book)) (capacity (m .cuts))

@@ -10,7 +10,7 @@ use native.Mathlib.Omega.{arith}
 use lib.Dec.{eqb}
 use lib.ListN.{length}
 use borrow.Author.Tests.{eq-eqb, ne-eqb}
-use Rattle.paper.specs.Lists.{In, keep, upTo, sum}
+use Rattle.paper.specs.Lists.{In, keep, upTo, sum, sumOf}
 use Rattle.paper.specs.Sets.{Set}
 use Rattle.paper.specs.Sizes.{sizeOf, ofSize, sizes, together}
 use Rattle.algebra.proofs.Lists.{map-same}
@@ -47,6 +47,10 @@ up-to-low : (i k m : ℕ) → In i (upTo k m) → i < m + k
 up-to-low i zero m h = absurd h
 up-to-low i (suc k) m (inl e) = omega arith
 up-to-low i (suc k) m (inr h) = let r = up-to-low i k (suc m) h in omega arith
+
+-- what agrees below n has one sum
+pub sum-same : (n : ℕ) (f g : ℕ → ℕ) → ((k : ℕ) → k < n → f k ≡ g k) → sumOf n f ≡ sumOf n g
+sum-same n f g h = ap sum (map-same f g (upTo n 0) (λ k i. h k (let r = up-to-low k n 0 i in omega arith)))
 
 -- ---- one set more
 
@@ -86,4 +90,4 @@ together-sets n l h = add-up n sizes l h
 -- counts that agree below the number of sizes have one sum
 pub together-same : (f g : ℕ → ℕ) → ((k : ℕ) → k < sizes → f k ≡ g k) → together f ≡ together g
 unfolding together
-together-same f g h = ap sum (map-same f g (upTo sizes 0) (λ k i. h k (let r = up-to-low k sizes 0 i in omega arith)))
+together-same f g h = sum-same sizes f g h

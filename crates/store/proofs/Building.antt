@@ -2,9 +2,9 @@
 -- Assumes nothing.
 use mathlib.Core.Path.{_≡_, refl, sym, ap, _∙_, subst}
 use mathlib.Core.Logic.{_≢_, _⊎_, inl, inr}
-use mathlib.Core.Bool.{false≢true}
+use mathlib.Core.Bool.{true, false≢true}
 use mathlib.Core.List.{List}
-use Prim.Native.Nat.{ℕ, zero, suc, _+_, _-_, _*_, _<_, _≤_}
+use Prim.Native.Nat.{ℕ, zero, suc, _+_, _-_, _*_, _/_, _<_, _≤_}
 use native.Mathlib.Omega.{arith}
 use lib.ListN.{getD, length, set}
 use Rattle.paper.specs.Lists.{In}
@@ -19,7 +19,10 @@ use Rattle.tables.proofs.Den.{den-0, den-1, den-node}
 use Rattle.tables.proofs.Once.{den-inj}
 use Rattle.store.specs.Store.{First, Store, Put, Sought}
 use Rattle.store.specs.Building.{Is, Part, Found, Step, Makes, Lacks, Stops, Builds, Only, Tidy}
+use Rattle.store.specs.Placing.{Unchanged, Lacking, Was, Grew, NoRoom, Puts, builtOf}
 use Rattle.store.specs.declared.Built.{Built}
+use Rattle.store.specs.declared.Placed.{Placed}
+use Rattle.store.specs.declared.Placed.the-variants.{Present, Added, Full}
 use Rattle.store.proofs.Denotes.{below-or-not, grown-refl, grown-trans, den-grown, found-grown, den-no-node}
 use Rattle.store.proofs.Adding.{put-grown, store-more, den-more}
 
@@ -117,20 +120,26 @@ part-trans {C} {D} h E p = record { inside = subs-trans E C D (p .inside) h; nod
 abbrev target : List ℕ → ℕ → ℕ → ℕ → Diagram
 target T e f s = node e (den T f) (den T s)
 
+unchanged : (T H X : List ℕ) → Unchanged T H X T H X
+unchanged T H X = record { nodes = refl; heads = refl; links = refl }
+
 module _ {T H X : List ℕ} {c e f s : ℕ} (t : Store T H X c) where
   -- it is there
-  pub made-old : {r : ℕ} → 2 ≤ r → Sought T c e f s r → Makes (Is (target T e f s)) T c (target T e f s) T H X c r
-  made-old {r} p q =
+  pub placed-old : {r : ℕ} → 2 ≤ r → Sought T c e f s r → Was T H X c (target T e f s) T H X r
+  placed-old {r} p q =
       let x = q .hit p in
-      makes-here t (record {
-        within = q .to;
-        is = den-node (t .lower) r p (q .to) ∙ (λ j. node (x .event j) (den T (x .failed j)) (den T (x .sound j)));
-      })
+      record {
+        same = unchanged T H X;
+        found = record {
+          within = q .to;
+          is = den-node (t .lower) r p (q .to) ∙ (λ j. node (x .event j) (den T (x .failed j)) (den T (x .sound j)));
+        };
+      }
 
   module _ (lf : f < c + 2) (ls : s < c + 2) {r : ℕ} (r2 : r < 2) (q : Sought T c e f s r) where
     -- no number denotes it
-    pub absent-den : (i : ℕ) → i < c + 2 → den T i ≡ target T e f s → ⊥
-    absent-den i l d = go (below-or-not i 2)
+    absent : Lacking T c (target T e f s)
+    absent i l d = go (below-or-not i 2)
       where
         go : (i < 2) ⊎ (2 ≤ i) → ⊥
         go (inl k) = false≢true (sym (den-no-node (t .lower) i k) ∙ ap isNode d)
@@ -145,25 +154,48 @@ module _ {T H X : List ℕ} {c e f s : ℕ} (t : Store T H X c) where
             })
 
     -- and there is no room
-    pub made-short : length T < 3 * c + 3 → Stops (Is (target T e f s)) T c T H X c
-    made-short h = record {
-      step = step-here t;
-      lacks = record { full = let z = t .room in omega arith; part = target T e f s; wanted = record { is = refl; node = refl }; absent = absent-den };
-    }
+    pub placed-none : length T < 3 * c + 3 → NoRoom T H X c (target T e f s) T H X
+    placed-none h = record { same = unchanged T H X; lacking = absent; full = let z = t .room in omega arith }
 
     -- or it is added
-    pub made-new : {h : ℕ} {T′ : List ℕ} → First e f s (length H) h → 3 * c + 3 ≤ length T → Put T c e f s T′
-        → Makes (Is (target T e f s)) T c (target T e f s) T′ (set H h (c + 2)) (set X c (getD H h 0)) (c + 1) (c + 2)
-    made-new {h} {T′} first room p =
-        let d = den-more t p first (q .miss r2) room lf ls in
-        record {
-          step = record {
-            store = store-more t p first (q .miss r2) room lf ls;
-            grown = put-grown t p;
-            wanted = λ i a b. let z : i ≡ c + 2 = omega arith in let w = ap (den T′) z ∙ d in record { is = w; node = ap isNode w };
-          };
-          found = record { within = omega arith; is = d };
-        }
+    pub placed-new : {h : ℕ} {T′ : List ℕ} → First e f s (length H) h → 3 * c + 3 ≤ length T → Put T c e f s T′
+        → Grew T c (target T e f s) T′ (set H h (c + 2)) (set X c (getD H h 0)) (c + 2)
+    placed-new {h} {T′} first room p = record {
+      lacking = absent;
+      next = refl;
+      store = store-more t p first (q .miss r2) room lf ls;
+      grown = put-grown t p;
+      is = den-more t p first (q .miss r2) room lf ls;
+    }
+
+-- ---- what was placed is what was to be built
+
+module _ {T H X : List ℕ} {c : ℕ} (t : Store T H X c) (D : Diagram) (n : isNode D ≡ true) (T′ H′ X′ : List ℕ) where
+  kept : Unchanged T H X T′ H′ X′ → Step (Is D) T c T′ H′ X′ c
+  kept u = subst (λ T′. Step (Is D) T c T′ H′ X′ c) (sym (u .nodes)) (subst (λ H′. Step (Is D) T c T H′ X′ c) (sym (u .heads)) (subst (λ X′. Step (Is D) T c T H X′ c) (sym (u .links)) (step-here t)))
+
+  pub placed-built : (p : Placed) → Puts T H X c D T′ H′ X′ p → {r : Built} → r ≡ builtOf c p → Builds (Is D) T c D T′ H′ X′ r
+  placed-built p w e = subst (Builds (Is D) T c D T′ H′ X′) (sym e) (go p w)
+    where
+      go : (p : Placed) → Puts T H X c D T′ H′ X′ p → Builds (Is D) T c D T′ H′ X′ (builtOf c p)
+      go (Present r) w = record { step = kept (w .same); found = subst (λ T′. Found T′ c D r) (sym (w .same .nodes)) (w .found) }
+      go (Added r) w = record {
+        step = record {
+          store = w .store;
+          grown = w .grown;
+          wanted = λ i a b. let z : i ≡ r = let q = w .next in omega arith in let d = ap (den T′) z ∙ w .is in record { is = d; node = ap isNode d ∙ n };
+        };
+        found = record { within = let q = w .next in omega arith; is = w .is };
+      }
+      go Full w = record {
+        step = kept (w .same);
+        lacks = record {
+          full = w .full ∙ ap (λ T. length T / 3) (sym (w .same .nodes));
+          part = D;
+          wanted = record { is = refl; node = n };
+          absent = subst (λ T′. Lacking T′ c D) (sym (w .same .nodes)) (w .lacking);
+        };
+      }
 
 -- ---- a node with a rule for what is dropped
 
@@ -174,7 +206,10 @@ module _ {T H X : List ℕ} {c : ℕ} (t : Store T H X c) (e : ℕ) {f s : ℕ} 
   pub made-none : f ≡ 0 → Makes (Is (mkZ e (den T f) (den T s))) T c (mkZ e (den T f) (den T s)) T H X c s
   made-none q = makes-here t (record { within = ls; is = sym (mkz-none e (den T f) (den T s) (ap (den T) q ∙ den-0 T)) })
 
-  module _ (T′ H′ X′ : List ℕ) (r : Built) (b : Builds (Is (target T e f s)) T c (target T e f s) T′ H′ X′ r) where
+  module _ (T′ H′ X′ : List ℕ) (p : Placed) (w : Puts T H X c (target T e f s) T′ H′ X′ p) {r : Built} (a : r ≡ builtOf c p) where
+    b : Builds (Is (target T e f s)) T c (target T e f s) T′ H′ X′ r
+    b = placed-built t (target T e f s) refl T′ H′ X′ p w a
+
     pub made-node : f ≢ s → Builds (Is (mkD e (den T f) (den T s))) T c (mkD e (den T f) (den T s)) T′ H′ X′ r
     made-node n = subst (λ D. Builds (Is D) T c D T′ H′ X′ r) (sym (mk-node e (den T f) (den T s) (λ q. n (den-inj (t .lower) (t .unique) lf ls q)))) b
 

@@ -1,4 +1,5 @@
--- The store of nodes, what building over it answers, and the memo beside it.
+-- The store of nodes, what finding or adding one and building over it answer, and the memo beside it.
 pub mod Store
 pub mod Building
+pub mod Placing
 pub mod Memo

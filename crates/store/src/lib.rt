@@ -4,17 +4,26 @@ ghost use mathlib.Core.Path.{_≡_};
 ghost use mathlib.Core.Bool.{true, false};
 ghost use Prim.Native.Nat.{_+_, _*_, _<_, _≤_};
 ghost use lib.ListN.{length};
+ghost use Rattle.paper.specs.Limits.{mostNumbers};
 ghost use Rattle.paper.specs.Diagrams.{node, mkD};
 ghost use Rattle.algebra.specs.Families.{mkZ};
 ghost use Rattle.tables.specs.Table.{den};
 ghost use Rattle.store.specs.Store.{mix, First, Triple, Store, Put, Sought};
 ghost use Rattle.store.specs.Building.{BuildsOne};
+ghost use Rattle.store.specs.Placing.{Puts, builtOf};
 ghost use Rattle.store.specs.Memo.{Places, Used, There, Place, Keeps, Recalls};
 
 // A node and the count of nodes after it; or the table is full. The count grew exactly if the node is new.
 pub enum Built {
     Done(u32, usize),
     Short(usize),
+}
+
+// The number of a node that was there, or that was added; or no room for it.
+pub enum Placed {
+    Present(u32),
+    Added(u32),
+    Full,
 }
 
 // What the memo says: the result, or the place where it is to be kept.
@@ -111,7 +120,7 @@ fn put(nodes: &mut [u32], count: usize, e: u32, failed: u32, sound: u32)
     nodes[at + 2] = sound;
 }
 
-// The node that is the triple, added where no stored node is it.
+// The node that is the triple, added where no stored node is it; and whether it was.
 pub fn find_or_add(
     nodes: &mut [u32],
     heads: &mut [u32],
@@ -120,25 +129,37 @@ pub fn find_or_add(
     e: u32,
     failed: u32,
     sound: u32,
-) -> Built
+) -> Placed
     requires { ⌜ Store (now nodes) (now heads) (now next) count ⌝ }
     requires { ⌜ failed < count + 2 ⌝ }
     requires { ⌜ sound < count + 2 ⌝ }
-    ensures { λ r. ⌜ BuildsOne (now (nodes .entry)) count (node e (den (now (nodes .entry)) failed) (den (now (nodes .entry)) sound)) (now (nodes .exit)) (now (heads .exit)) (now (next .exit)) r ⌝ }
+    ensures { λ r. ⌜ Puts (now (nodes .entry)) (now (heads .entry)) (now (next .entry)) count (node e (den (now (nodes .entry)) failed) (den (now (nodes .entry)) sound)) (now (nodes .exit)) (now (heads .exit)) (now (next .exit)) r ⌝ }
 {
     let h = first_slot(e, failed, sound, heads.len());
     let r = find(nodes, heads, next, count, h, e, failed, sound);
     if 2 <= r {
-        return Built::Done(r, count);
+        return Placed::Present(r);
     }
     if nodes.len() < 3 * count + 3 {
-        return Built::Short(count);
+        return Placed::Full;
     }
     put(nodes, count, e, failed, sound);
     next[count] = heads[h];
     let number = (count + 2) as u32;
     heads[h] = number;
-    Built::Done(number, count + 1)
+    Placed::Added(number)
+}
+
+// What a builder answers that wanted this one node of a table of `count` nodes.
+pub fn as_built(placed: Placed, count: usize) -> Built
+    requires { ⌜ count ≤ mostNumbers ⌝ }
+    ensures { λ r. ⌜ r ≡ builtOf count placed ⌝ }
+{
+    match placed {
+        Placed::Present(r) => Built::Done(r, count),
+        Placed::Added(r) => Built::Done(r, count + 1),
+        Placed::Full => Built::Short(count),
+    }
 }
 
 // The node of an event over two branches; where they are the same, the branch.
@@ -159,7 +180,8 @@ pub fn make(
     if failed == sound {
         return Built::Done(failed, count);
     }
-    find_or_add(nodes, heads, next, count, e, failed, sound)
+    let placed = find_or_add(nodes, heads, next, count, e, failed, sound);
+    as_built(placed, count)
 }
 
 // The same in a table of cuts; where the failed branch is no set, the sound branch.
@@ -180,7 +202,8 @@ pub fn make_z(
     if failed == 0 {
         return Built::Done(sound, count);
     }
-    find_or_add(nodes, heads, next, count, e, failed, sound)
+    let placed = find_or_add(nodes, heads, next, count, e, failed, sound);
+    as_built(placed, count)
 }
 
 // How many numbers of a memo of that length are used: whole quadruples, and no more than a hash of 32 bits reaches.

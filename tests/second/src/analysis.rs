@@ -4,7 +4,7 @@ use crate::cut_diagram::CutDiagram;
 use crate::judge::{read, refuse, Refusal};
 use crate::lent::{Lent, Sort, MOST_NUMBERS};
 use crate::robdd::{Counted, Full, Robdd};
-use crate::tree::{distinct, Tree};
+use crate::tree::{distinct, Tree, MOST_GATES};
 
 /// The lengths of what is lent to an analysis, in numbers.
 #[derive(Clone, Copy, Debug)]
@@ -12,6 +12,8 @@ pub struct Lengths {
     pub node_table: usize,
     pub cut_table: usize,
     pub gate_list: usize,
+    /// The list of the nodes that each gate added.
+    pub added_list: usize,
     pub memo: usize,
     /// Whether each work area has its documented smallest length.
     pub areas_suffice: bool,
@@ -19,8 +21,14 @@ pub struct Lengths {
 
 impl Lengths {
     /// Room for any tree of the documents' size.
-    pub const AMPLE: Lengths =
-        Lengths { node_table: MOST_NUMBERS, cut_table: MOST_NUMBERS, gate_list: 512, memo: 0, areas_suffice: true };
+    pub const AMPLE: Lengths = Lengths {
+        node_table: MOST_NUMBERS,
+        cut_table: MOST_NUMBERS,
+        gate_list: MOST_GATES,
+        added_list: MOST_GATES,
+        memo: 0,
+        areas_suffice: true,
+    };
 
     pub fn of_capacities(nodes: usize, cuts: usize) -> Lengths {
         Lengths { node_table: 3 * nodes, cut_table: 3 * cuts, ..Lengths::AMPLE }
@@ -32,6 +40,7 @@ impl Lengths {
             && table_fits(self.cut_table)
             && self.memo % 4 == 0
             && self.gate_list as u64 >= tree.gate_count
+            && self.added_list as u64 >= tree.gate_count
             && self.areas_suffice
     }
 }
@@ -53,14 +62,28 @@ pub fn analyse_over(bytes: &[u8], lengths: Lengths, counted: &Counted) -> Result
     if !lengths.keep_rules(&tree) {
         return refuse(9, 0);
     }
-    let Ok(robdd) = Robdd::build_over(&tree, lengths.node_table / 3, counted) else { return refuse(10, 0) };
+    let robdd = match Robdd::build_over(&tree, lengths.node_table / 3, counted) {
+        Ok(robdd) => robdd,
+        Err(gate) => return refuse(10, gate as u64),
+    };
     match CutDiagram::build(&robdd, lengths.cut_table / 3) {
         Ok(cuts) => Ok(Analysis { tree, robdd, cuts }),
         Err(Full) => refuse(11, 0),
     }
 }
 
+/// Request 6: for each gate the nodes needed by the gates up to it, less those needed by the gates before it.
+pub fn added(needed: &[usize]) -> Vec<u32> {
+    let before = [&[0], needed].concat();
+    needed.iter().zip(before).map(|(&needed, before)| (needed - before) as u32).collect()
+}
+
 impl Analysis {
+    /// The nodes that each gate added.
+    pub fn added(&self) -> Vec<u32> {
+        added(&self.robdd.nodes_by_gate)
+    }
+
     /// The root's function diagram as it would be lent to the bracket.
     pub fn lent_function(&self) -> Lent {
         Lent {

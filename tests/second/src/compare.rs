@@ -1,6 +1,7 @@
 //! One seeded input after another: a library's answers and its lent memory against the second program.
 
 use crate::analysis::{analyse, Analysis, Lengths};
+use crate::compare_added::{compare_added_list, meet_added, meet_refusal};
 use crate::compare_changes::compare_pairs;
 use crate::compare_equations::{compare_texts, compare_trees};
 use crate::compare_lent::{compare_bracket, compare_list};
@@ -12,14 +13,12 @@ use crate::generator::{self, large_shape, longest_shape, middle_shape, small_sha
 use crate::judge::{read, write, Refusal};
 use crate::lent::{Lent, Sort};
 use crate::library::*;
+use crate::memory::{dirty, lengths, Memory, Need, MOST_NODES};
 use crate::random::Random;
 use crate::renumbering::renumbering;
 use crate::tally::{hex, Tally};
 use crate::tree::{distinct, Input, Tree, AT_LEAST, MOST_GATES};
 use crate::unlawful::tree_in_memory;
-
-/// Larger diagrams are cut off here: their inputs then ask for number 10.
-const MOST_NODES: usize = 6_000;
 
 /// The comparisons of one input.
 pub fn compare_input(library: &dyn Library, seed: u64, tally: &mut Tally) {
@@ -150,130 +149,14 @@ pub fn compare_rooms(
     }
 }
 
-/// What a tree needs, or several together.
-#[derive(Clone, Copy)]
-pub struct Need {
-    pub nodes: usize,
-    pub cuts: usize,
-    pub gates: usize,
-}
-
-impl Need {
-    /// None where the tree is refused, or too large to be built.
-    pub fn of(bytes: &[u8]) -> Option<Need> {
-        let done = analyse(bytes, Lengths::of_capacities(MOST_NODES, MOST_NODES)).ok()?;
-        let Analysis { tree, robdd, cuts } = done;
-        Some(Need { nodes: robdd.nodes.count(), cuts: cuts.nodes.count(), gates: tree.gates.len() })
-    }
-}
-
-/// The lengths to be lent, near what the tree needs: mostly right, each wrong in some of the inputs.
-pub fn lengths(library: &dyn Library, need: Need, random: &mut Random) -> (Lengths, [usize; 4]) {
-    let Need { nodes, cuts, gates } = need;
-    let mut around = |needed: usize| match random.below(8) {
-        0 => needed.saturating_sub(1),
-        1 => random.below(needed + 1),
-        2 => needed + random.below(60),
-        3 => needed + 1,
-        _ => needed,
-    };
-    let (node_capacity, cut_capacity) = (around(nodes), around(cuts));
-    let mut bad = |length: usize| match random.below(60) {
-        0 => length + 1,
-        1 => length + 2,
-        _ => length,
-    };
-    let (mut node_table, mut cut_table) = (bad(3 * node_capacity), bad(3 * cut_capacity));
-    if random.once_in(5_000) {
-        node_table = 3_000_003;
-    }
-    if random.once_in(5_000) {
-        cut_table = 3_000_003;
-    }
-    let memo = match random.below(20) {
-        0 => 4 * random.below(10) + random.between(1, 3),
-        1..=6 if nodes < 60 => 0,
-        7..=9 if nodes < 300 => 4,
-        // A memo that is far too small makes a large diagram slow.
-        10..=12 => 4 * (nodes / 10 + random.between(1, 100)),
-        13 if random.once_in(40) => 4 * random.between(10_000, 100_000),
-        _ => 4 * random.between(1_000, 2_000),
-    };
-    let gate_list = match random.below(20) {
-        0 => gates.saturating_sub(1),
-        1..=4 => gates + random.below(20),
-        _ => gates,
-    };
-    let smallest = library.smallest_areas(node_table / 3, cut_table / 3);
-    let mut work = smallest.map(|least| match random.below(300) {
-        0 => least + random.below(50_000),
-        1..=99 => least + random.below(50),
-        _ => least,
-    });
-    let mut areas_suffice = true;
-    let place = random.below(4);
-    if random.once_in(20) && smallest[place] > 0 {
-        work[place] = random.below(smallest[place]).max(smallest[place] - smallest[place].min(2));
-        areas_suffice = false;
-    }
-    (Lengths { node_table, cut_table, gate_list, memo, areas_suffice }, work)
-}
-
 /// Whether both tables have room for just the nodes that are needed.
 fn exactly(done: &Analysis, lengths: Lengths) -> bool {
     lengths.node_table == 3 * done.robdd.nodes.count() && lengths.cut_table == 3 * done.cuts.nodes.count()
 }
 
-/// What lent memory holds at entry: anything, small numbers among it that could pass for nodes.
-pub fn dirty(random: &mut Random, length: usize) -> Guarded<u32> {
-    let small = random.below(3);
-    let contents = (0..length).map(|_| match small {
-        0 => random.below(8) as u32,
-        1 => random.next() as u32,
-        _ => u32::from(random.once_in(2)),
-    });
-    Guarded::new(contents.collect(), 0xDEAD_BEEF)
-}
-
-/// What an analysis is lent, dirty.
-pub struct Memory {
-    nodes: Guarded<u32>,
-    cuts: Guarded<u32>,
-    gates: Guarded<u32>,
-    memo: Guarded<u32>,
-    work: [Guarded<u32>; 4],
-}
-
-impl Memory {
-    pub fn dirty(lengths: Lengths, work_lengths: [usize; 4], random: &mut Random) -> Memory {
-        Memory {
-            nodes: dirty(random, lengths.node_table),
-            cuts: dirty(random, lengths.cut_table),
-            gates: dirty(random, lengths.gate_list),
-            memo: dirty(random, lengths.memo),
-            work: work_lengths.map(|length| dirty(random, length)),
-        }
-    }
-
-    pub fn lend(&mut self) -> Areas<'_> {
-        Areas {
-            nodes: self.nodes.lend(),
-            cuts: self.cuts.lend(),
-            gates: self.gates.lend(),
-            memo: self.memo.lend(),
-            work: self.work.each_mut().map(Guarded::lend),
-        }
-    }
-
-    pub fn all(&self) -> [&Guarded<u32>; 8] {
-        let [heads, next, marks, own] = &self.work;
-        [&self.nodes, &self.cuts, &self.gates, &self.memo, heads, next, marks, own]
-    }
-}
-
 pub fn compare_analysis(library: &dyn Library, bytes: &[u8], random: &mut Random, tally: &mut Tally) {
-    let some = Need { nodes: random.below(MOST_NODES), cuts: random.below(200), gates: MOST_GATES };
-    let need = Need::of(bytes).unwrap_or(some);
+    let (nodes, cuts) = (random.below(MOST_NODES), random.below(200));
+    let need = Need::of(bytes).unwrap_or(Need { nodes, cuts, gates: MOST_GATES, by_gate: Vec::new() });
     let (lengths, work_lengths) = lengths(library, need, random);
     compare_analysis_in(library, bytes, lengths, work_lengths, random, tally);
 }
@@ -288,19 +171,13 @@ pub fn compare_analysis_in(
     tally: &mut Tally,
 ) {
     let expected = analyse(bytes, lengths);
-    tally.due("analyse", expected.as_ref().map_or_else(|refusal| refusal.number, |_| 0));
-    if let Ok(done) = &expected {
-        tally.meet("tables exactly full", exactly(done, lengths));
-        tally.meet("analyses without a memo", lengths.memo == 0);
-        tally.meet("with one quadruple", lengths.memo == 4);
-        tally.meet("with 10,000 quadruples", lengths.memo >= 40_000);
-        meet_twins(&done.tree, tally);
-    }
+    meet_analysis(&expected, bytes, lengths, tally);
     let mut memory = Memory::dirty(lengths, work_lengths, random);
+    let mut added = dirty(random, lengths.added_list);
     tally.note(|| format!("{} lengths {lengths:?} work areas {work_lengths:?}", hex(bytes)));
-    let got = library.analyse(bytes, memory.lend());
+    let got = library.analyse(bytes, memory.lend(), added.lend());
     no_fault(library, tally);
-    let all = memory.all();
+    let all = [&memory.all()[..], &[&added]].concat();
     tally.holds("guards of an analysis", all.iter().all(|area| area.guards_stand()));
     match expected {
         Err(Refusal { number, place }) => {
@@ -318,16 +195,33 @@ pub fn compare_analysis_in(
             if (got.number, got.place, got.nodes, got.cut_nodes) != counts {
                 return;
             }
-            tally.holds("memo and work areas end zero", all[3..].iter().all(|area| area.all(0)));
+            tally.holds("memo and work areas end zero", memory.all()[3..].iter().all(|area| area.all(0)));
+            compare_tables(&done, &got, &memory, tally);
+            compare_added_list(&done, &got, &added, tally);
+            let tables = (memory.nodes.now(), memory.cuts.now());
+            compare_uses(library, &done, &got, tables, random, tally);
+        }
+    }
+}
+
+/// What an analysis brought that is worth meeting.
+fn meet_analysis(expected: &Result<Analysis, Refusal>, bytes: &[u8], lengths: Lengths, tally: &mut Tally) {
+    tally.due("analyse", expected.as_ref().map_or_else(|refusal| refusal.number, |_| 0));
+    match expected {
+        Err(refusal) => meet_refusal(*refusal, bytes, lengths, tally),
+        Ok(done) => {
+            tally.meet("tables exactly full", exactly(done, lengths));
+            tally.meet("analyses without a memo", lengths.memo == 0);
+            tally.meet("with one quadruple", lengths.memo == 4);
+            tally.meet("with 10,000 quadruples", lengths.memo >= 40_000);
             tally.large("events analysed", done.tree.event_count);
             tally.large("gates analysed", done.tree.gate_count);
             tally.large("inputs analysed", done.tree.inputs.len() as u64);
-            tally.large("nodes", counts.2);
-            tally.large("cut nodes", counts.3);
+            tally.large("nodes", done.robdd.nodes.count() as u64);
+            tally.large("cut nodes", done.cuts.nodes.count() as u64);
             tally.large("memo", lengths.memo as u64);
-            compare_tables(&done, &got, &memory, tally);
-            let tables = (memory.nodes.now(), memory.cuts.now());
-            compare_uses(library, &done, &got, tables, random, tally);
+            meet_twins(&done.tree, tally);
+            meet_added(done, tally);
         }
     }
 }

@@ -2,12 +2,13 @@
 
 use crate::analysis::{analyse, Lengths};
 use crate::brute;
-use crate::compare::{compare_rooms, dirty, no_fault};
+use crate::compare::{compare_rooms, no_fault};
 use crate::equations::*;
 use crate::generator;
 use crate::judge::{read, write};
 use crate::library::*;
 use crate::listing::Walk;
+use crate::memory::dirty;
 use crate::random::Random;
 use crate::sets::Set;
 use crate::tally::Tally;

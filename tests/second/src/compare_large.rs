@@ -1,8 +1,9 @@
-//! The fixed inputs of every run: request 3 case by case, trees of known numbers at exact capacities, the longest bytes, the limits of lengths.
+//! The fixed inputs of every run: requests 3 and 6 case by case, trees of known numbers at exact capacities, the longest bytes, the limits of lengths.
 
 use crate::analysis::{analyse, Lengths};
 use crate::city::{self, city};
 use crate::compare::{compare_analysis_in, compare_diagram, compare_reading};
+use crate::compare_added::compare_added;
 use crate::compare_changes::{case_1, compare_listings};
 use crate::compare_equations::{compare_export, compare_import};
 use crate::compare_lent::one_listing;
@@ -23,6 +24,7 @@ pub fn compare_large(library: &dyn Library, tally: &mut Tally) {
     let random = &mut Random::new(0);
     tally.detailed = true;
     compare_twins(library, random, tally);
+    compare_added(library, random, tally);
     compare_named(library, "European 1", &european_1(), random, tally);
     compare_named(library, "a small city", &city(city::SMALL), random, tally);
     compare_named(library, "a middle city", &city(city::MIDDLE), random, tally);
@@ -68,8 +70,8 @@ fn compare_named(library: &dyn Library, name: &'static str, tree: &Tree, random:
     let done = analyse(&bytes, Lengths::AMPLE).unwrap_or_else(|_| unreachable!("{name} has room in ample tables"));
     let (nodes, cuts) = (done.robdd.nodes.count(), done.cuts.nodes.count());
     for (nodes, cuts) in [(nodes, cuts), (nodes - 1, cuts), (nodes, cuts - 1)] {
-        let gate_list = tree.gates.len();
-        let lengths = Lengths { gate_list, memo: 1 << 20, ..Lengths::of_capacities(nodes, cuts) };
+        let (gate_list, added_list) = (tree.gates.len(), tree.gates.len());
+        let lengths = Lengths { gate_list, added_list, memo: 1 << 20, ..Lengths::of_capacities(nodes, cuts) };
         compare_analysis_in(library, &bytes, lengths, library.smallest_areas(nodes, cuts), random, tally);
     }
     let family = done.lent_cuts();
@@ -103,13 +105,14 @@ fn compare_longest_tables(library: &dyn Library, random: &mut Random, tally: &mu
         [(most, most), (most, 12), (18, most), (most + 3, 12), (18, most + 3), (most - 1, most)]
     {
         let work = library.smallest_areas(node_table / 3, cut_table / 3);
-        let lengths = Lengths { node_table, cut_table, gate_list: 3, memo: 4, areas_suffice: true };
+        let lengths = Lengths { node_table, cut_table, gate_list: 3, added_list: 3, memo: 4, areas_suffice: true };
         compare_analysis_in(library, &bytes, lengths, work, random, tally);
     }
     for place in 0..4 {
         let mut work = library.smallest_areas(most / 3, 4);
         work[place] -= 1;
-        let lengths = Lengths { node_table: most, cut_table: 12, gate_list: 3, memo: 4, areas_suffice: false };
+        let lengths =
+            Lengths { node_table: most, cut_table: 12, gate_list: 3, added_list: 3, memo: 4, areas_suffice: false };
         compare_analysis_in(library, &bytes, lengths, work, random, tally);
     }
 }

@@ -1,7 +1,7 @@
 //! Counts by size of any lent family, and the totals over folders, against the second program.
 
 use crate::analysis::Lengths;
-use crate::compare::{lengths, no_fault, Memory, Need};
+use crate::compare::no_fault;
 use crate::european::european_1;
 use crate::families;
 use crate::folders::{self, Folder};
@@ -10,6 +10,7 @@ use crate::heat_removal::heat_removal;
 use crate::judge::{write, Refusal};
 use crate::lent::Lent;
 use crate::library::*;
+use crate::memory::{lengths, Memory, Need};
 use crate::random::Random;
 use crate::sizes::*;
 use crate::tally::{hex, Tally};
@@ -117,13 +118,14 @@ pub fn compare_folders(library: &dyn Library, random: &mut Random, tally: &mut T
 
 /// The lengths to be lent to the analyses: near what all trees need together.
 fn lengths_around(library: &dyn Library, folder: &Folder, random: &mut Random) -> (Lengths, [usize; 4]) {
-    let mut need = Need { nodes: 1, cuts: 1, gates: 1 };
+    let mut need = Need { nodes: 1, cuts: 1, gates: 1, by_gate: Vec::new() };
     for tree in trees_of(&folder.bytes, &folder.lengths).unwrap_or_default() {
         if let Some(own) = Need::of(tree) {
             need = Need {
                 nodes: need.nodes.max(own.nodes),
                 cuts: need.cuts.max(own.cuts),
                 gates: need.gates.max(own.gates),
+                by_gate: own.by_gate,
             };
         }
     }
@@ -183,12 +185,13 @@ fn meet_folder(folder: &Folder, lent: Lengths, refused: Option<RefusedFolder>, t
         Some(RefusedFolder { number: 19, .. }) => {
             tally.meet("folders with too many cuts in no single tree", !trees.iter().any(|tree| too_many(&[tree])));
         }
-        Some(RefusedFolder { number, tree, .. }) if trees.len() > 1 && (number != 9 || tree > 0) => {
+        Some(RefusedFolder { number, place, tree }) if trees.len() > 1 && (number != 9 || tree > 0) => {
             let tree = tree as usize;
             tally.meet("folders refused by their first tree", tree == 0);
             tally.meet("folders refused by their last tree", tree == trees.len() - 1);
             tally.meet("folders refused by a tree in the middle", tree > 0 && tree < trees.len() - 1);
             tally.meet("folders refused by a tree after too many cuts", too_many(&trees[..tree]));
+            tally.meet("folders refused by a gate but the first", number == 10 && place > 0);
         }
         Some(_) => {}
     }

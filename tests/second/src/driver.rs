@@ -264,13 +264,11 @@ impl Library for Driver {
         self.written(WRITE, tree, room)
     }
 
-    fn analyse(&self, bytes: &[u8], areas: Areas) -> AnalyseAnswer {
-        let mut request = Request::of(ANALYSE).bytes(bytes);
-        let mut all = areas.all();
-        for area in &all {
-            request = request.numbers(area);
-        }
-        let mut written = all.each_mut().map(|area| Area::Numbers(area));
+    fn analyse(&self, bytes: &[u8], areas: Areas, added: &mut [u32]) -> AnalyseAnswer {
+        let [nodes, cuts, gates, behind @ ..] = areas.all();
+        let mut all: Vec<&mut [u32]> = [nodes, cuts, gates, added].into_iter().chain(behind).collect();
+        let request = all.iter().fold(Request::of(ANALYSE).bytes(bytes), |request, area| request.numbers(area));
+        let mut written: Vec<Area> = all.iter_mut().map(|area| Area::Numbers(area)).collect();
         let [number, place, nodes, cut_nodes, root, cut_root] = self.ask(request, &mut written);
         AnalyseAnswer { number: small(number), place, nodes, cut_nodes, root: small(root), cut_root: small(cut_root) }
     }

@@ -1,6 +1,7 @@
 //! The second program: document 01 read again, from its words alone, in plain Rust.
 //! Nothing here is fast on purpose; where two ways are at hand, the one nearer to the words is taken.
 
+pub mod added;
 pub mod analysis;
 pub mod arrays;
 pub mod big;
@@ -10,6 +11,7 @@ pub mod brute_cuts;
 pub mod changes;
 pub mod city;
 pub mod compare;
+pub mod compare_added;
 pub mod compare_changes;
 pub mod compare_equations;
 pub mod compare_large;
@@ -31,6 +33,7 @@ pub mod judge;
 pub mod lent;
 pub mod library;
 pub mod listing;
+pub mod memory;
 pub mod mirror;
 pub mod pairs;
 pub mod program;
@@ -45,6 +48,7 @@ pub mod tree;
 pub mod twins;
 pub mod unlawful;
 pub mod wrong;
+pub mod wrong_added;
 pub mod wrong_changes;
 pub mod wrong_equations;
 pub mod wrong_lent;

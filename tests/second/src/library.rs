@@ -75,7 +75,7 @@ pub struct FolderAnswer {
     pub tree: u64,
 }
 
-/// What an analysis is lent.
+/// What an analysis is lent, and a folder too; an analysis has one list more.
 pub struct Areas<'a> {
     pub nodes: &'a mut [u32],
     pub cuts: &'a mut [u32],
@@ -126,7 +126,8 @@ pub trait Library {
 
     fn read(&self, bytes: &[u8]) -> ReadAnswer;
     fn write(&self, tree: &Tree, room: &mut [u8]) -> WriteAnswer;
-    fn analyse(&self, bytes: &[u8], areas: Areas) -> AnalyseAnswer;
+    /// `added` is the list of the nodes that each gate added.
+    fn analyse(&self, bytes: &[u8], areas: Areas, added: &mut [u32]) -> AnalyseAnswer;
     /// `None` is "from the beginning".
     fn list(&self, diagram: &Lent, after: Option<Set>, room: &mut [u8]) -> ListAnswer;
     fn bracket(&self, diagram: &Lent, chances: &[u32], work: [&mut [u32]; 2]) -> BracketAnswer;

@@ -142,7 +142,9 @@ fn plain(bytes: &[u8], room: usize, most: usize, out: &mut dyn Write) -> io::Res
         Err(Refusal { number, place }) => return writeln!(out, "refused {number} at {place}"),
     };
     writeln!(out, "events {}\ngates {}", done.tree.event_count, done.tree.gate_count)?;
-    writeln!(out, "nodes {}\ncut nodes {}", done.robdd.nodes.count(), done.cuts.nodes.count())?;
+    let added: Vec<String> = done.added().iter().map(u32::to_string).collect();
+    writeln!(out, "nodes {}\nadded {}", done.robdd.nodes.count(), added.join(" "))?;
+    writeln!(out, "cut nodes {}", done.cuts.nodes.count())?;
     let diagram = done.lent_cuts();
     let (mut written, mut used, mut sum, mut start) = (0, 0, 0u64, None);
     let finished = loop {

@@ -11,7 +11,7 @@ use crate::library::*;
 use crate::listing::list;
 use crate::sets::Set;
 use crate::sizes::{folder, sizes, RefusedFolder, COUNT_AREAS, SIZES};
-use crate::tree::Tree;
+use crate::tree::{Tree, MOST_GATES};
 
 pub struct Mirror;
 
@@ -44,16 +44,18 @@ pub fn lay_out_counts(counts: Option<&[u64]>, counting: CountAreas) {
 }
 
 /// What an analysis leaves and answers, of whichever program.
-pub fn lay_out_analysis(done: Result<Analysis, Refusal>, mut areas: Areas) -> AnalyseAnswer {
+pub fn lay_out_analysis(done: Result<Analysis, Refusal>, mut areas: Areas, added: &mut [u32]) -> AnalyseAnswer {
     let refusal = done.as_ref().err().copied();
     if refusal.is_none_or(|refusal| refusal.number >= 10) {
         areas.again().clear();
+        added.fill(0);
     }
     match done {
         Ok(done) => {
             fill(areas.nodes, &done.robdd.nodes.table());
             fill(areas.cuts, &done.cuts.nodes.table());
             fill(areas.gates, &done.robdd.gate_nodes);
+            fill(added, &done.added());
             AnalyseAnswer {
                 number: 0,
                 place: 0,
@@ -74,12 +76,14 @@ impl Mirror {
         counting.counts.len() >= SIZES && counting.work.iter().zip(smallest).all(|(area, least)| area.len() >= least)
     }
 
+    /// With a list of added nodes that is long enough.
     pub fn lengths(&self, areas: &Areas) -> Lengths {
         let smallest = self.smallest_areas(areas.nodes.len() / 3, areas.cuts.len() / 3);
         Lengths {
             node_table: areas.nodes.len(),
             cut_table: areas.cuts.len(),
             gate_list: areas.gates.len(),
+            added_list: MOST_GATES,
             memo: areas.memo.len(),
             areas_suffice: areas.work.iter().zip(smallest).all(|(area, least)| area.len() >= least),
         }
@@ -113,9 +117,9 @@ impl Library for Mirror {
         }
     }
 
-    fn analyse(&self, bytes: &[u8], areas: Areas) -> AnalyseAnswer {
-        let done = analyse(bytes, self.lengths(&areas));
-        lay_out_analysis(done, areas)
+    fn analyse(&self, bytes: &[u8], areas: Areas, added: &mut [u32]) -> AnalyseAnswer {
+        let done = analyse(bytes, Lengths { added_list: added.len(), ..self.lengths(&areas) });
+        lay_out_analysis(done, areas, added)
     }
 
     fn list(&self, diagram: &Lent, after: Option<Set>, room: &mut [u8]) -> ListAnswer {

@@ -4,7 +4,7 @@ use crate::analysis::{analyse, Lengths};
 use crate::hash::Map;
 use crate::judge::{refuse, Refusal};
 use crate::lent::Lent;
-use crate::tree::MOST_EVENTS;
+use crate::tree::{MOST_EVENTS, MOST_GATES};
 
 /// One count for each size, from 0 to 256.
 pub const SIZES: usize = MOST_EVENTS + 1;
@@ -83,6 +83,8 @@ pub fn trees_of<'a>(bytes: &'a [u8], lengths: &[u64]) -> Option<Vec<&'a [u8]>> {
 /// The totals of each size: 9 for the folder, then tree by tree, then 19.
 pub fn folder(bytes: &[u8], lengths: &[u64], lent: Lengths, suffice: bool) -> Result<Vec<u64>, RefusedFolder> {
     let trees = trees_of(bytes, lengths).filter(|_| suffice).ok_or(RefusedFolder::whole(9))?;
+    // Nobody lends a folder a list of added nodes.
+    let lent = Lengths { added_list: MOST_GATES, ..lent };
     let mut totals = vec![0u128; SIZES];
     for (index, tree) in trees.into_iter().enumerate() {
         let refused = |Refusal { number, place }| RefusedFolder { number, place, tree: index as u64 };

@@ -18,12 +18,17 @@ pub struct Case {
     pub due: Due,
 }
 
+/// The bytes of a tree whose events have chance 0.
+pub fn tree_bytes(events: usize, gates: &str) -> Vec<u8> {
+    let digits: Vec<u8> = gates.bytes().filter(|digit| !digit.is_ascii_whitespace()).collect();
+    let byte = |pair: &[u8]| std::str::from_utf8(pair).ok().and_then(|pair| u8::from_str_radix(pair, 16).ok());
+    let gates = digits.chunks(2).map(|pair| byte(pair).expect("two digits"));
+    [1, 0, 0, 0, 0].repeat(events).into_iter().chain(gates).collect()
+}
+
 impl Case {
     pub fn bytes(&self) -> Vec<u8> {
-        let digits: Vec<u8> = self.gates.bytes().filter(|digit| !digit.is_ascii_whitespace()).collect();
-        let byte = |pair: &[u8]| std::str::from_utf8(pair).ok().and_then(|pair| u8::from_str_radix(pair, 16).ok());
-        let gates = digits.chunks(2).map(|pair| byte(pair).expect("two digits"));
-        [1, 0, 0, 0, 0].repeat(self.events).into_iter().chain(gates).collect()
+        tree_bytes(self.events, self.gates)
     }
 }
 

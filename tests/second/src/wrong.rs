@@ -1,6 +1,6 @@
 //! Wrong programs: the mirror with one fault each. The comparison must see every one of them.
 
-use crate::analysis::analyse_over;
+use crate::analysis::{analyse_over, Lengths};
 use crate::changes::{Comparison, Difference, Verdict};
 use crate::cut_diagram::CutDiagram;
 use crate::equations::LISTS;
@@ -12,6 +12,7 @@ use crate::robdd::Robdd;
 use crate::sets::Set;
 use crate::sizes::COUNT_AREAS;
 use crate::tree::*;
+use crate::wrong_added::wrong_added;
 use crate::wrong_changes::{wrong_compare, wrong_difference, wrong_side};
 use crate::wrong_equations::{wrong_export, wrong_import};
 use crate::wrong_lent::{wrong_bracket, wrong_list};
@@ -64,6 +65,22 @@ wrongs! {
     DistinctByNode,
     DistinctByNumbersAlone,
     DistinctAtTheLastPlaces,
+    // What each gate adds.
+    EventsWithTheFirstGate,
+    EventsNotCounted,
+    ReachedForAdded,
+    NeededForAdded,
+    DirtBehindTheAdded,
+    AddedStayOnTen,
+    AddedStayOnEleven,
+    AddedClearedBeforeNine,
+    ShortAddedPasses,
+    TenWithoutAGate,
+    EventsBuiltFirst,
+    PlaceOneGateLate,
+    PlaceOfTheLastThatFits,
+    TenSaysTheRecord,
+    ElevenSaysAGate,
     // Listing.
     FinishedAfterFirstRoom,
     FinishedIfRoomIsLeft,
@@ -160,6 +177,7 @@ wrongs! {
     CountingAreasStayAfterALaterTree,
     FirstTreeClears,
     EmptyFolderChangesNothing,
+    FolderTenWithoutAGate,
     // Listings compared.
     EndOfCutLacks,
     Kind23Taken,
@@ -244,12 +262,15 @@ impl Library for WrongProgram {
         answer
     }
 
-    fn analyse(&self, bytes: &[u8], mut areas: Areas) -> AnalyseAnswer {
-        let nodes_before = areas.nodes.to_vec();
+    fn analyse(&self, bytes: &[u8], mut areas: Areas, added: &mut [u32]) -> AnalyseAnswer {
+        let (nodes_before, added_before) = (areas.nodes.to_vec(), added.to_vec());
         let other = other_steps(self.0, bytes);
         let mut answer = match counted(self.0) {
-            Some(counted) => lay_out_analysis(analyse_over(bytes, Mirror.lengths(&areas), &counted), areas.again()),
-            None => Mirror.analyse(other.as_deref().unwrap_or(bytes), areas.again()),
+            Some(counted) => {
+                let lengths = Lengths { added_list: added.len(), ..Mirror.lengths(&areas) };
+                lay_out_analysis(analyse_over(bytes, lengths, &counted), areas.again(), added)
+            }
+            None => Mirror.analyse(other.as_deref().unwrap_or(bytes), areas.again(), added),
         };
         match (self.0, answer.number) {
             (SafeBound, 0) if areas.nodes.len() < 4 * answer.nodes as usize => {
@@ -274,7 +295,7 @@ impl Library for WrongProgram {
             (AreaLeftDirty, 0) => *areas.work[3].last_mut().expect("an area has numbers") = 1,
             (CountKeptInRefusal, 11) => answer.nodes = areas.nodes.len() as u64 / 3,
             (FirstGateIsRoot, 0) => answer.root = areas.gates[0],
-            _ => {}
+            _ => answer = wrong_added(self.0, bytes, &added_before, areas, added, answer),
         }
         answer
     }

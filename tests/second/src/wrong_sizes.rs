@@ -91,6 +91,7 @@ fn other_totals(wrong: Wrong, bytes: &[u8], lengths: &[u64], lent: Lengths, suff
             let before: u64 = lengths[..refused.tree as usize].iter().sum();
             RefusedFolder { place: refused.place + before, ..refused }
         }),
+        (FolderTenWithoutAGate, 10) => right.map_err(|refused| RefusedFolder { place: 0, ..refused }),
         (TreeNotTold, _) => right.map_err(|refused| RefusedFolder { tree: 0, ..refused }),
         (LastRefusedTree, 1..=11) => {
             (0..trees.len()).rev().map(alone).find(Result::is_err).filter(|_| suffice).unwrap_or(right)

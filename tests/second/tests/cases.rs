@@ -46,15 +46,16 @@ fn case_1_bytes_counts_listing() {
     assert_eq!(read(&bytes).unwrap(), case_1());
     let done = analysed(&case_1());
     assert_eq!((done.robdd.nodes.count(), done.cuts.nodes.count()), (6, 4));
-    assert_eq!(done.robdd.nodes_by_gate, [3, 5, 6]);
+    assert_eq!(done.added(), [3, 2, 1]);
     let whole = list(&done.lent_cuts(), None, 100);
     assert_eq!(whole.bytes, [0x21, 0, 0x21, 1, 0x22, 0x21, 1, 0x21, 2, 0x22]);
     assert_eq!(top(&done), (19_000_000, 19_000_000));
     assert_eq!(number(&bytes, 6, 4), None);
-    assert_eq!(number(&bytes, 5, 4), Some(Refusal { number: 10, place: 0 }));
-    assert_eq!(number(&bytes, 5, 3), Some(Refusal { number: 10, place: 0 }));
+    for (nodes, gate) in [(5, 2), (4, 1), (3, 1), (2, 0), (1, 0), (0, 0)] {
+        assert_eq!(number(&bytes, nodes, 4), Some(Refusal { number: 10, place: gate }));
+        assert_eq!(number(&bytes, nodes, 0), Some(Refusal { number: 10, place: gate }));
+    }
     assert_eq!(number(&bytes, 6, 3), Some(Refusal { number: 11, place: 0 }));
-    assert_eq!(number(&bytes, 0, 0), Some(Refusal { number: 10, place: 0 }));
     let mut text = Vec::new();
     program(&bytes, &mut text).unwrap();
     let expected = "events 3\ngates 3\nnodes 6\ncuts\n0 1\n1 2\ntop 19000000 19000000\n";
@@ -118,7 +119,7 @@ fn case_5_absorbed() {
     let done = analysed(&tree);
     assert_eq!(cuts(&done), [vec![0]]);
     assert_eq!(events_reached(&done.lent_function()), 1);
-    assert_eq!(done.robdd.nodes_by_gate, [3, 3]);
+    assert_eq!(done.added(), [3, 0]);
 }
 
 #[test]
@@ -191,10 +192,12 @@ fn lengths_come_after_the_tree_and_before_the_tables() {
         Lengths { cut_table: 3_000_003, node_table: 0, ..ample },
         Lengths { memo: 6, ..ample },
         Lengths { gate_list: 2, ..ample },
+        Lengths { added_list: 2, ..ample },
+        Lengths { added_list: 0, node_table: 0, ..ample },
         Lengths { areas_suffice: false, ..ample },
     ] {
         assert_eq!(analyse(&bytes, bad).err(), Some(Refusal { number: 9, place: 0 }));
         assert_eq!(analyse(&bytes[1..], bad).err(), Some(Refusal { number: 2, place: 0 }));
     }
-    assert!(analyse(&bytes, Lengths { gate_list: 3, memo: 4, ..ample }).is_ok());
+    assert!(analyse(&bytes, Lengths { gate_list: 3, added_list: 3, memo: 4, ..ample }).is_ok());
 }

@@ -135,10 +135,12 @@ fn the_order_of_a_folder() {
         assert_eq!(of_trees(&[&huge, &fits, &bad.bytes], ample, true), refused(number, place, 2));
         assert_eq!(of_trees(&[&bad.bytes], ample, false), refused(9, 0, 0));
     }
-    // A tree's own 9, 10 and 11.
+    // A tree's own 9, 10 with its gate, and 11; nobody lends a list of added nodes.
     let lent = Lengths { gate_list: 63, ..ample };
     assert_eq!(of_trees(&[&small, &small, &huge], lent, true), refused(9, 0, 2));
-    assert_eq!(of_trees(&[&fits, &huge], Lengths::of_capacities(4_223, 128), true), refused(10, 0, 1));
+    assert!(of_trees(&[&small], Lengths { added_list: 0, ..ample }, true).is_ok());
+    assert_eq!(of_trees(&[&fits, &huge], Lengths::of_capacities(4_223, 128), true), refused(10, 64, 1));
+    assert_eq!(of_trees(&[&fits, &huge], Lengths::of_capacities(2, 128), true), refused(10, 0, 0));
     assert_eq!(of_trees(&[&fits, &huge], Lengths::of_capacities(4_224, 127), true), refused(11, 0, 1));
     assert_eq!(of_trees(&[&fits], Lengths::of_capacities(4_095, 126), true).unwrap()[63], 1 << 63);
 }

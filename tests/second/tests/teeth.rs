@@ -1,6 +1,7 @@
 //! The comparison itself: it passes the mirror, and it sees every wrong program.
 
 use second::compare::compare_input;
+use second::compare_added::compare_added;
 use second::compare_large::compare_twins;
 use second::library::Library;
 use second::mirror::Mirror;
@@ -39,32 +40,65 @@ fn the_mirror_passes() {
     }
 }
 
-/// The cases of request 3 by themselves tell every wrong program about twins from the mirror, but those that write trees in memory.
-#[test]
-fn twins_are_told_apart() {
+/// The cases of a request by themselves: the mirror passes, and each of these wrong programs is seen.
+fn told_apart(compare: fn(&dyn Library, &mut Random, &mut Tally), wrongs: &[Wrong]) {
     let tally = |library: &dyn Library| {
         let mut tally = Tally::default();
-        compare_twins(library, &mut Random::new(0), &mut tally);
+        compare(library, &mut Random::new(0), &mut tally);
         tally
     };
     let right = tally(&Mirror);
     assert_eq!(right.failed, 0, "{}", right.first_difference.unwrap_or_default());
-    for wrong in [
-        Wrong::ZeroAtOnce,
-        Wrong::FiveAtOnce,
-        Wrong::FiveAtTheLastInput,
-        Wrong::FiveAfterTheNextRecord,
-        Wrong::FiveOfAllInputs,
-        Wrong::FiveByNumbersAlone,
-        Wrong::TwinsDroppedFromJoins,
-        Wrong::DoublesCountedTwice,
-        Wrong::DistinctByNode,
-        Wrong::DistinctByNumbersAlone,
-        Wrong::DistinctAtTheLastPlaces,
-        Wrong::ImportsFiveOfAllInputs,
-    ] {
+    for &wrong in wrongs {
         assert!(tally(&WrongProgram(wrong)).failed > 0, "{wrong:?} passes");
     }
+}
+
+/// Every wrong program about twins, but those that write trees in memory.
+#[test]
+fn twins_are_told_apart() {
+    told_apart(
+        compare_twins,
+        &[
+            Wrong::ZeroAtOnce,
+            Wrong::FiveAtOnce,
+            Wrong::FiveAtTheLastInput,
+            Wrong::FiveAfterTheNextRecord,
+            Wrong::FiveOfAllInputs,
+            Wrong::FiveByNumbersAlone,
+            Wrong::TwinsDroppedFromJoins,
+            Wrong::DoublesCountedTwice,
+            Wrong::DistinctByNode,
+            Wrong::DistinctByNumbersAlone,
+            Wrong::DistinctAtTheLastPlaces,
+            Wrong::ImportsFiveOfAllInputs,
+        ],
+    );
+}
+
+/// Every wrong program about added nodes, but that of a folder.
+#[test]
+fn added_nodes_are_told_apart() {
+    told_apart(
+        compare_added,
+        &[
+            Wrong::EventsWithTheFirstGate,
+            Wrong::EventsNotCounted,
+            Wrong::ReachedForAdded,
+            Wrong::NeededForAdded,
+            Wrong::DirtBehindTheAdded,
+            Wrong::AddedStayOnTen,
+            Wrong::AddedStayOnEleven,
+            Wrong::AddedClearedBeforeNine,
+            Wrong::ShortAddedPasses,
+            Wrong::TenWithoutAGate,
+            Wrong::EventsBuiltFirst,
+            Wrong::PlaceOneGateLate,
+            Wrong::PlaceOfTheLastThatFits,
+            Wrong::TenSaysTheRecord,
+            Wrong::ElevenSaysAGate,
+        ],
+    );
 }
 
 #[test]

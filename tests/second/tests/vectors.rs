@@ -1,5 +1,6 @@
 //! Vectors from outside: reading, European 1, and made trees with their counts.
 
+use second::added::filled;
 use second::analysis::{analyse, Analysis, Lengths};
 use second::big::Big;
 use second::bracket::{bracket, events_reached, exact_chance, keeps_promise};
@@ -104,11 +105,10 @@ fn european() {
     assert_eq!(events_reached(&function), 61);
     assert!(keeps_promise(1_275, 1_288, &exact_chance(&function, &tree.chances), 61, 61));
     // The gate that fills a table of 4,096 nodes.
-    let filled = done.robdd.nodes_by_gate.iter().position(|&nodes| nodes > 4_096);
-    assert_eq!(filled, Some(75));
+    assert_eq!(filled(&done.added(), 4_096), Some(75));
     let mut text = Vec::new();
     program(&bytes, &mut text).unwrap();
-    assert_eq!(text, b"refused 10 at 0\n");
+    assert_eq!(text, b"refused 10 at 75\n");
 }
 
 /// A lent function diagram of document 003; not monotone.

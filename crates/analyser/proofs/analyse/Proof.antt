@@ -24,7 +24,7 @@ returns c =
 
 analyse-tree-requires : tie.Need-analyse-tree-requires
 analyse-tree-requires c κs =
-    let z : c .before .before .before .before .before .before .before .before .before .before .number .result ≡ 0 = omega arith in reading-done _ (c .before .before .before .before .before .before .before .before .before .before .before .read .ensures .0) (c .before .before .before .before .before .before .before .before .before .before .number .ensures) z
+    let z : c .before .before .before .before .before .before .before .before .before .before .before .number .result ≡ 0 = omega arith in reading-done _ (c .before .before .before .before .before .before .before .before .before .before .before .before .read .ensures .0) (c .before .before .before .before .before .before .before .before .before .before .before .number .ensures) z
 
 same-length : tie.Need-same-length
 same-length c = search needs
@@ -50,9 +50,12 @@ same-length-7 c = search needs
 same-length-8 : tie.Need-same-length-8
 same-length-8 c = search needs
 
+same-length-9 : tie.Need-same-length-9
+same-length-9 c = search needs
+
 returns-2 : tie.Need-returns-2
 returns-2 c =
-    let z : c .before .before .before .before .before .before .before .before .before .before .before .before .before .before .before .before .before .before .before .before .before .before .before .before .before .before .before .number .result ≡ 0 = omega arith in reading-tried _ (c .before .before .before .before .before .before .before .before .before .before .before .before .before .before .before .before .before .before .before .before .before .before .before .before .before .before .before .before .read .ensures .0) (c .before .before .before .before .before .before .before .before .before .before .before .before .before .before .before .before .before .before .before .before .before .before .before .before .before .before .before .number .ensures) z (c .before .before .before .before .before .before .before .before .before .before .before .before .before .before .before .before .analyse-tree .ensures)
+    let z : c .before .before .before .before .before .before .before .before .before .before .before .before .before .before .before .before .before .before .before .before .before .before .before .before .before .before .before .before .before .before .number .result ≡ 0 = omega arith in reading-tried _ (c .before .before .before .before .before .before .before .before .before .before .before .before .before .before .before .before .before .before .before .before .before .before .before .before .before .before .before .before .before .before .before .read .ensures .0) (c .before .before .before .before .before .before .before .before .before .before .before .before .before .before .before .before .before .before .before .before .before .before .before .before .before .before .before .before .before .before .number .ensures) z (c .before .before .before .before .before .before .before .before .before .before .before .before .before .before .before .before .before .before .analyse-tree .ensures)
 
 pub analyse-spec : {M : Type 1} → statement M
 analyse-spec =
@@ -72,4 +75,5 @@ analyse-spec =
     same-length-6
     same-length-7
     same-length-8
+    same-length-9
     returns-2)

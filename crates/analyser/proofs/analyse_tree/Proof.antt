@@ -36,16 +36,16 @@ same-length-7 c = search needs
 same-length-8 : tie.Need-same-length-8
 same-length-8 c = search needs
 
+same-length-9 : tie.Need-same-length-9
+same-length-9 c = search needs
+
 returns : tie.Need-returns
 returns c =
     Tried.bad-length (denied (c .before .before .lengths-ok .result) (c .before .before .lengths-ok .ensures) (c .before .if1 .taken)) (c .refused .ensures) refl
 
 fill-requires : tie.Need-fill-requires
 fill-requires c κs =
-    (c .before .before .before .before .before .before .before .before .before .before .before .before .before .before .before .before .before .before .before .before .before .before .before .before .before .before .pre, granted (c .before .before .before .before .before .before .before .before .before .lengths-ok .result) (c .before .before .before .before .before .before .before .before .before .lengths-ok .ensures) (c .before .before .before .before .before .before .before .before .if1 .left))
-
-same-length-9 : tie.Need-same-length-9
-same-length-9 c = search needs
+    (c .before .before .before .before .before .before .before .before .before .before .before .before .before .before .before .before .before .before .before .before .before .before .before .before .before .before .before .before .before .pre, granted (c .before .before .before .before .before .before .before .before .before .before .lengths-ok .result) (c .before .before .before .before .before .before .before .before .before .before .lengths-ok .ensures) (c .before .before .before .before .before .before .before .before .before .if1 .left))
 
 same-length-10 : tie.Need-same-length-10
 same-length-10 c = search needs
@@ -68,9 +68,15 @@ same-length-15 c = search needs
 same-length-16 : tie.Need-same-length-16
 same-length-16 c = search needs
 
+same-length-17 : tie.Need-same-length-17
+same-length-17 c = search needs
+
+same-length-18 : tie.Need-same-length-18
+same-length-18 c = search needs
+
 returns-2 : tie.Need-returns-2
 returns-2 c =
-    Tried.filled (granted (c .before .before .before .before .before .before .before .before .before .before .before .before .before .before .before .before .before .before .before .before .before .before .before .before .before .before .lengths-ok .result) (c .before .before .before .before .before .before .before .before .before .before .before .before .before .before .before .before .before .before .before .before .before .before .before .before .before .before .lengths-ok .ensures) (c .before .before .before .before .before .before .before .before .before .before .before .before .before .before .before .before .before .before .before .before .before .before .before .before .before .if1 .left)) (c .before .before .before .before .before .before .before .before .before .before .before .before .before .before .before .before .fill .ensures)
+    Tried.filled (granted (c .before .before .before .before .before .before .before .before .before .before .before .before .before .before .before .before .before .before .before .before .before .before .before .before .before .before .before .before .before .lengths-ok .result) (c .before .before .before .before .before .before .before .before .before .before .before .before .before .before .before .before .before .before .before .before .before .before .before .before .before .before .before .before .before .lengths-ok .ensures) (c .before .before .before .before .before .before .before .before .before .before .before .before .before .before .before .before .before .before .before .before .before .before .before .before .before .before .before .before .if1 .left)) (c .before .before .before .before .before .before .before .before .before .before .before .before .before .before .before .before .before .before .fill .ensures)
 
 pub analyse-tree-spec : {M : Type 1} → statement M
 analyse-tree-spec =
@@ -86,9 +92,9 @@ analyse-tree-spec =
     same-length-6
     same-length-7
     same-length-8
+    same-length-9
     returns
     fill-requires
-    same-length-9
     same-length-10
     same-length-11
     same-length-12
@@ -96,4 +102,6 @@ analyse-tree-spec =
     same-length-14
     same-length-15
     same-length-16
+    same-length-17
+    same-length-18
     returns-2)

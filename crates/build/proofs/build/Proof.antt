@@ -14,8 +14,8 @@ slice-aggregate-build-over c = search needs
 
 build-over-requires : tie.Need-build-over-requires
 build-over-requires c κs =
-    let s = c .before .before .before .before .before .before .before .before .before .before .before .before .before .before .before .before in
-    (s .pre .0, (s .pre .1 .0, (s .pre .1 .1, places-one)))
+    let s = c .before .before .before .before .before .before .before .before .before .before .before .before .before .before .before .before .before .before in
+    (s .pre .0, (s .pre .1 .0, (s .pre .1 .1 .0, (s .pre .1 .1 .1, places-one))))
 
 same-length : tie.Need-same-length
 same-length c = search needs
@@ -29,6 +29,9 @@ same-length-3 c = search needs
 same-length-4 : tie.Need-same-length-4
 same-length-4 c = search needs
 
+same-length-5 : tie.Need-same-length-5
+same-length-5 c = search needs
+
 returns : tie.Need-returns
 returns c = search needs
 
@@ -40,11 +43,8 @@ slice-aggregate-build-over-2 c = sym (length-take-le _ _ (c .before .before .bef
 
 build-over-requires-2 : tie.Need-build-over-requires-2
 build-over-requires-2 c κs =
-    let s = c .before .before .before .before .before .before .before .before .before .before .before .before .before .before .before .before in
-    (s .pre .0, (s .pre .1 .0, (s .pre .1 .1, places-used (s .args .memo .now) _ (c .before .before .before .before .before .before .used .ensures) (c .before .before .before .before .before .if1 .left))))
-
-same-length-5 : tie.Need-same-length-5
-same-length-5 c = search needs
+    let s = c .before .before .before .before .before .before .before .before .before .before .before .before .before .before .before .before .before .before in
+    (s .pre .0, (s .pre .1 .0, (s .pre .1 .1 .0, (s .pre .1 .1 .1, places-used (s .args .memo .now) _ (c .before .before .before .before .before .before .before .used .ensures) (c .before .before .before .before .before .before .if1 .left)))))
 
 same-length-6 : tie.Need-same-length-6
 same-length-6 c = search needs
@@ -57,6 +57,12 @@ same-length-8 c = search needs
 
 same-length-9 : tie.Need-same-length-9
 same-length-9 c = search needs
+
+same-length-10 : tie.Need-same-length-10
+same-length-10 c = search needs
+
+same-length-11 : tie.Need-same-length-11
+same-length-11 c = search needs
 
 returns-2 : tie.Need-returns-2
 returns-2 c = search needs
@@ -72,13 +78,15 @@ build-spec =
     same-length-2
     same-length-3
     same-length-4
+    same-length-5
     returns
     slice-relend-prefix-build-over
     slice-aggregate-build-over-2
     build-over-requires-2
-    same-length-5
     same-length-6
     same-length-7
     same-length-8
     same-length-9
+    same-length-10
+    same-length-11
     returns-2)

@@ -14,19 +14,19 @@ slice-aggregate-build-2 c = search needs
 
 array-share-prefix-sizes : tie.Need-array-share-prefix-sizes
 array-share-prefix-sizes c =
-    let a = c .before .before .before .before .before .before .before .before .before .before .before .before .before .before .before .before .pre .0 in omega (arith, a .few-gates, a .all-sizes)
+    let a = c .before .before .before .before .before .before .before .before .before .before .before .before .before .before .before .before .before .before .pre .0 in omega (arith, a .few-gates, a .all-sizes)
 
 slice-aggregate-build-3 : tie.Need-slice-aggregate-build-3
 slice-aggregate-build-3 c =
-    array-sizes (c .before .before .before .before .before .before .before .before .before .before .before .before .before .before .before .before .before .pre .0)
+    array-sizes (c .before .before .before .before .before .before .before .before .before .before .before .before .before .before .before .before .before .before .before .pre .0)
 
 slice-aggregate-build-4 : tie.Need-slice-aggregate-build-4
 slice-aggregate-build-4 c =
-    sym (c .before .before .before .before .before .before .before .before .before .before .before .before .before .before .before .before .before .before .pre .0 .all-inputs)
+    sym (c .before .before .before .before .before .before .before .before .before .before .before .before .before .before .before .before .before .before .before .before .pre .0 .all-inputs)
 
 build-requires : tie.Need-build-requires
 build-requires c κs =
-    let s = c .before .before .before .before .before .before .before .before .before .before .before .before .before .before .before .before .before .before in (s .pre .1 .0, (s .pre .0 .plan, omega (arith, array-sizes (s .pre .0), s .pre .1 .1)))
+    let s = c .before .before .before .before .before .before .before .before .before .before .before .before .before .before .before .before .before .before .before .before in let n = array-sizes (s .pre .0) in (s .pre .1 .0, (s .pre .0 .plan, (omega (arith, n, s .pre .1 .1 .0), omega (arith, n, s .pre .1 .1 .1))))
 
 same-length : tie.Need-same-length
 same-length c = search needs
@@ -43,9 +43,12 @@ same-length-4 c = search needs
 same-length-5 : tie.Need-same-length-5
 same-length-5 c = search needs
 
+same-length-6 : tie.Need-same-length-6
+same-length-6 c = search needs
+
 returns : tie.Need-returns
 returns c =
-    c .before .before .before .before .before .before .before .before .before .before .build .ensures
+    c .before .before .before .before .before .before .before .before .before .before .before .before .build .ensures
 
 pub build-tree-spec : {M : Type 1} → statement M
 build-tree-spec =
@@ -62,4 +65,5 @@ build-tree-spec =
     same-length-3
     same-length-4
     same-length-5
+    same-length-6
     returns)

@@ -41,6 +41,9 @@ slice-aggregate-analyse-7 c = search needs
 slice-aggregate-analyse-8 : tie.Need-slice-aggregate-analyse-8
 slice-aggregate-analyse-8 c = search needs
 
+slice-aggregate-analyse-9 : tie.Need-slice-aggregate-analyse-9
+slice-aggregate-analyse-9 c = search needs
+
 analyse-requires : tie.Need-analyse-requires
 analyse-requires c κs = search needs
 
@@ -63,5 +66,6 @@ answered-spec =
     slice-aggregate-analyse-6
     slice-aggregate-analyse-7
     slice-aggregate-analyse-8
+    slice-aggregate-analyse-9
     analyse-requires
     returns)

@@ -7,8 +7,8 @@ use Rattle.exported.proofs.matticklet_analyse.Tie as tie
 analyse-requires : tie.Need-analyse-requires
 analyse-requires c κs = search needs
 
-cast-t28 : tie.Need-cast-t28
-cast-t28 c = search needs
+cast-t31 : tie.Need-cast-t31
+cast-t31 c = search needs
 
 same-length : tie.Need-same-length
 same-length c = search needs
@@ -34,15 +34,18 @@ same-length-7 c = search needs
 same-length-8 : tie.Need-same-length-8
 same-length-8 c = search needs
 
+same-length-9 : tie.Need-same-length-9
+same-length-9 c = search needs
+
 returns : tie.Need-returns
-returns c = (c .before .before .before .before .before .before .before .before .before .before .before .before .before .before .before .before .before .before .analyse .result, (c .before .before .before .before .before .before .before .before .before .before .before .before .before .before .before .before .before .before .analyse .ensures, refl))
+returns c = (c .before .before .before .before .before .before .before .before .before .before .before .before .before .before .before .before .before .before .before .before .analyse .result, (c .before .before .before .before .before .before .before .before .before .before .before .before .before .before .before .before .before .before .before .before .analyse .ensures, refl))
 
 pub matticklet-analyse-spec : {M : Type 1} → statement M
 matticklet-analyse-spec =
     tie.close
     (tie.spec
     analyse-requires
-    cast-t28
+    cast-t31
     same-length
     same-length-2
     same-length-3
@@ -51,4 +54,5 @@ matticklet-analyse-spec =
     same-length-6
     same-length-7
     same-length-8
+    same-length-9
     returns)

@@ -29,6 +29,9 @@ slice-aggregate-analyse-7 c = search needs
 slice-aggregate-analyse-8 : tie.Need-slice-aggregate-analyse-8
 slice-aggregate-analyse-8 c = search needs
 
+slice-aggregate-analyse-9 : tie.Need-slice-aggregate-analyse-9
+slice-aggregate-analyse-9 c = search needs
+
 analyse-requires : tie.Need-analyse-requires
 analyse-requires c κs = search needs
 
@@ -42,7 +45,7 @@ read-requires : tie.Need-read-requires
 read-requires c κs = search needs
 
 report-requires : tie.Need-report-requires
-report-requires c κs = held _ (c .before .before .before .before .before .read .ensures .0) (c .before .before .before .before .before .before .before .before .before .before .before .before .before .before .before .before .analyse .ensures) (omega arith)
+report-requires c κs = held _ (c .before .before .before .before .before .read .ensures .0) (c .before .before .before .before .before .before .before .before .before .before .before .before .before .before .before .before .before .analyse .ensures) (omega arith)
 
 returns-2 : tie.Need-returns-2
 returns-2 c = search needs
@@ -59,6 +62,7 @@ answer-spec =
     slice-aggregate-analyse-6
     slice-aggregate-analyse-7
     slice-aggregate-analyse-8
+    slice-aggregate-analyse-9
     analyse-requires
     say-refusal-requires
     returns

@@ -27,6 +27,9 @@ clear-requires-7 c κs = search needs
 clear-requires-8 : tie.Need-clear-requires-8
 clear-requires-8 c κs = search needs
 
+clear-requires-9 : tie.Need-clear-requires-9
+clear-requires-9 c κs = search needs
+
 same-length : tie.Need-same-length
 same-length c = search needs
 
@@ -51,9 +54,12 @@ same-length-7 c = search needs
 same-length-8 : tie.Need-same-length-8
 same-length-8 c = search needs
 
+same-length-9 : tie.Need-same-length-9
+same-length-9 c = search needs
+
 returns : tie.Need-returns
 returns c =
-    record { nodes = c .before .before .before .before .before .before .before .before .before .before .before .before .before .before .before .before .before .before .before .before .before .before .before .before .before .before .before .before .before .before .clear .ensures; cuts = c .before .before .before .before .before .before .before .before .before .before .before .before .before .before .before .before .before .before .before .before .before .before .before .before .before .before .clear2 .ensures; gates = c .before .before .before .before .before .before .before .before .before .before .before .before .before .before .before .before .before .before .before .before .before .before .clear3 .ensures; memo = c .before .before .before .before .before .before .before .before .before .before .before .before .before .before .before .before .before .before .clear4 .ensures; heads = c .before .before .before .before .before .before .before .before .before .before .before .before .before .before .clear5 .ensures; next = c .before .before .before .before .before .before .before .before .before .before .clear6 .ensures; marks = c .before .before .before .before .before .before .clear7 .ensures; own = c .before .before .clear8 .ensures }
+    record { nodes = c .before .before .before .before .before .before .before .before .before .before .before .before .before .before .before .before .before .before .before .before .before .before .before .before .before .before .before .before .before .before .before .before .before .before .clear .ensures; cuts = c .before .before .before .before .before .before .before .before .before .before .before .before .before .before .before .before .before .before .before .before .before .before .before .before .before .before .before .before .before .before .clear2 .ensures; gates = c .before .before .before .before .before .before .before .before .before .before .before .before .before .before .before .before .before .before .before .before .before .before .before .before .before .before .clear3 .ensures; added = c .before .before .before .before .before .before .before .before .before .before .before .before .before .before .before .before .before .before .before .before .before .before .clear4 .ensures; memo = c .before .before .before .before .before .before .before .before .before .before .before .before .before .before .before .before .before .before .clear5 .ensures; heads = c .before .before .before .before .before .before .before .before .before .before .before .before .before .before .clear6 .ensures; next = c .before .before .before .before .before .before .before .before .before .before .clear7 .ensures; marks = c .before .before .before .before .before .before .clear8 .ensures; own = c .before .before .clear9 .ensures }
 
 pub wipe-spec : {M : Type 1} → statement M
 wipe-spec =
@@ -67,6 +73,7 @@ wipe-spec =
     clear-requires-6
     clear-requires-7
     clear-requires-8
+    clear-requires-9
     same-length
     same-length-2
     same-length-3
@@ -75,4 +82,5 @@ wipe-spec =
     same-length-6
     same-length-7
     same-length-8
+    same-length-9
     returns)

@@ -1,5 +1,5 @@
 use native.Mathlib.Omega.{arith}
-use Rattle.store.proofs.Building.{made-old, made-short, made-new}
+use Rattle.store.proofs.Building.{placed-old, placed-none, placed-new}
 use borrow.Author.Needs.{needs}
 use Rattle.store.proofs.find_or_add.Statement.{statement}
 use Rattle.store.proofs.find_or_add.Tie as tie
@@ -20,7 +20,7 @@ same-length-3 : tie.Need-same-length-3
 same-length-3 c = search needs
 
 returns : tie.Need-returns
-returns c = made-old (c .before .before .before .before .before .before .before .before .before .pre .0) (let z = c .if1 .taken in omega arith) (c .before .find .ensures)
+returns c = placed-old (c .before .before .before .before .before .before .before .before .before .pre .0) (let z = c .if1 .taken in omega arith) (c .before .find .ensures)
 
 mul-if2 : tie.Need-mul-if2
 mul-if2 c = search needs
@@ -40,7 +40,7 @@ same-length-6 c = search needs
 returns-2 : tie.Need-returns-2
 returns-2 c =
     let at-start = c .before .before .before .before .before .before .before .before .before .before in
-    made-short (at-start .pre .0) (at-start .pre .1 .0) (at-start .pre .1 .1) (let z = c .before .if1 .left in omega arith) (c .before .before .find .ensures) (let z = c .if2 .taken in omega arith)
+    placed-none (at-start .pre .0) (at-start .pre .1 .0) (at-start .pre .1 .1) (let z = c .before .if1 .left in omega arith) (c .before .before .find .ensures) (let z = c .if2 .taken in omega arith)
 
 put-requires : tie.Need-put-requires
 put-requires c κs = search needs
@@ -69,9 +69,6 @@ mul-heads c = search needs
 slice-write-heads : tie.Need-slice-write-heads
 slice-write-heads c = search needs
 
-add-t20 : tie.Need-add-t20
-add-t20 c = search needs
-
 same-length-7 : tie.Need-same-length-7
 same-length-7 c = search needs
 
@@ -85,7 +82,7 @@ returns-3 : tie.Need-returns-3
 returns-3 c =
     let at-start = c .before .before .before .before .before .before .before .before .before .before .before .before .before .before .before in
     let at-slot = c .before .before .before .before .before .before .before .before .before .before .before in
-    made-new (at-start .pre .0) (at-start .pre .1 .0) (at-start .pre .1 .1) (let z = c .before .before .before .before .before .before .if1 .left in omega arith) (c .before .before .before .before .before .before .before .find .ensures) (at-slot .first-slot .ensures) (omega arith) (c .before .before .before .put .ensures)
+    placed-new (at-start .pre .0) (at-start .pre .1 .0) (at-start .pre .1 .1) (let z = c .before .before .before .before .before .before .if1 .left in omega arith) (c .before .before .before .before .before .before .before .find .ensures) (at-slot .first-slot .ensures) (omega arith) (c .before .before .before .put .ensures)
 
 pub find-or-add-spec : {M : Type 1} → statement M
 find-or-add-spec =
@@ -112,7 +109,6 @@ find-or-add-spec =
     cast-number
     mul-heads
     slice-write-heads
-    add-t20
     same-length-7
     same-length-8
     same-length-9

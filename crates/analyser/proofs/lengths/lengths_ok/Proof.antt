@@ -24,22 +24,26 @@ returns-3 c = search needs
 returns-4 : tie.Need-returns-4
 returns-4 c = search needs
 
+returns-5 : tie.Need-returns-5
+returns-5 c = search needs
+
 areas-ok-requires : tie.Need-areas-ok-requires
 areas-ok-requires c κs = (
-  granted (c .before .before .before .before .before .table-ok .result) (c .before .before .before .before .before .table-ok .ensures) (c .before .before .before .before .if1 .left),
-  granted (c .before .before .before .table-ok2 .result) (c .before .before .before .table-ok2 .ensures) (c .before .before .if2 .left),
+  granted (c .before .before .before .before .before .before .table-ok .result) (c .before .before .before .before .before .before .table-ok .ensures) (c .before .before .before .before .before .if1 .left),
+  granted (c .before .before .before .before .table-ok2 .result) (c .before .before .before .before .table-ok2 .ensures) (c .before .before .before .if2 .left),
 )
 
-returns-5 : tie.Need-returns-5
-returns-5 c = λ l. denied (c .before .areas-ok .result) (c .before .areas-ok .ensures) (c .if5 .taken) (l .areas)
-
 returns-6 : tie.Need-returns-6
-returns-6 c = record {
-  node-table = granted (c .before .before .before .before .before .before .before .table-ok .result) (c .before .before .before .before .before .before .before .table-ok .ensures) (c .before .before .before .before .before .before .if1 .left);
-  cut-table = granted (c .before .before .before .before .before .table-ok2 .result) (c .before .before .before .before .before .table-ok2 .ensures) (c .before .before .before .before .if2 .left);
+returns-6 c = λ l. denied (c .before .areas-ok .result) (c .before .areas-ok .ensures) (c .if6 .taken) (l .areas)
+
+returns-7 : tie.Need-returns-7
+returns-7 c = record {
+  node-table = granted (c .before .before .before .before .before .before .before .before .table-ok .result) (c .before .before .before .before .before .before .before .before .table-ok .ensures) (c .before .before .before .before .before .before .before .if1 .left);
+  cut-table = granted (c .before .before .before .before .before .before .table-ok2 .result) (c .before .before .before .before .before .before .table-ok2 .ensures) (c .before .before .before .before .before .if2 .left);
   gate-list = omega arith;
+  added-list = omega arith;
   fours = omega arith;
-  areas = granted (c .before .areas-ok .result) (c .before .areas-ok .ensures) (c .if5 .left);
+  areas = granted (c .before .areas-ok .result) (c .before .areas-ok .ensures) (c .if6 .left);
 }
 
 pub lengths-ok-spec : {M : Type 1} → statement M
@@ -52,6 +56,7 @@ lengths-ok-spec =
     returns-2
     returns-3
     returns-4
-    areas-ok-requires
     returns-5
-    returns-6)
+    areas-ok-requires
+    returns-6
+    returns-7)
