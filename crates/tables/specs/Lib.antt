@@ -3,3 +3,4 @@ pub mod Table
 pub mod Flags
 pub mod Stored
 pub mod Lent
+pub mod Check

@@ -7,6 +7,7 @@ ghost use Rattle.paper.specs.Limits.{mostNumbers};
 ghost use Rattle.tables.specs.Table.{eventAt, failedAt, soundAt, eventOf, failedOf, soundOf};
 ghost use Rattle.tables.specs.Flags.{Says};
 ghost use Rattle.tables.specs.Lent.{Above, Node, Kind, Lent};
+ghost use Rattle.tables.specs.Check.{Before, Failed};
 
 // A number of a table, as an index.
 pub fn wide(x: u32) -> usize
@@ -73,42 +74,61 @@ pub fn clear(work: &mut [u32])
     }
 }
 
-// Whether branch `b` of a node with event `e` is a leaf, or has a higher event.
-fn above(nodes: &[u32], e: usize, b: usize) -> bool
-    requires { ⌜ (2 ≤ b → 3 * (b - 2) + 2 < length (now nodes)) ⌝ }
-    ensures { λ r. ⌜ Says r (Above (now (nodes .entry)) e b) ⌝ }
+// Whether node `b` stands before node `i` and has a higher event than `e`.
+fn earlier(nodes: &[u32], i: usize, e: usize, b: usize) -> bool
+    requires { ⌜ (2 ≤ b) × (3 * (i - 2) + 2 < length (now nodes)) ⌝ }
+    ensures { λ r. ⌜ Says r ((b < i) × (e < eventOf (now (nodes .entry)) b)) ⌝ }
 {
-    if b < 2 {
-        return true;
+    if i <= b {
+        return false;
     }
     e < event_of(nodes, b)
 }
 
-// Whether node `i` keeps the rules of a diagram, or of a cut diagram.
-fn node_ok(nodes: &[u32], n: usize, i: usize, cut: bool) -> bool
+// Whether node `i` keeps the rules as far as its event `e` and its failed branch `f` go. Earlier nodes have their events in range, so of a branch
+// that is one of them it is enough that its event is higher.
+fn failed_ok(nodes: &[u32], n: usize, i: usize, e: usize, f: usize, cut: bool) -> bool
+    requires { ⌜ (2 ≤ i) × (3 * (i - 2) + 2 < length (now nodes)) × Before n (now nodes) i ⌝ }
+    ensures { λ r. ⌜ Says r (Failed cut n (now (nodes .entry)) i e f) ⌝ }
+{
+    if 2 <= f {
+        return earlier(nodes, i, e, f);
+    }
+    if cut {
+        if f == 0 {
+            return false;
+        }
+    }
+    e < n
+}
+
+// Whether it keeps them as far as its sound branch `s` goes.
+fn sound_ok(nodes: &[u32], i: usize, e: usize, s: usize) -> bool
     requires { ⌜ (2 ≤ i) × (3 * (i - 2) + 2 < length (now nodes)) ⌝ }
+    ensures { λ r. ⌜ Says r ((s < i) × Above (now (nodes .entry)) e s) ⌝ }
+{
+    if 2 <= s {
+        return earlier(nodes, i, e, s);
+    }
+    true
+}
+
+// Whether node `i`, behind nodes whose events are in range, keeps the rules of a diagram, or of a cut diagram.
+fn node_ok(nodes: &[u32], n: usize, i: usize, cut: bool) -> bool
+    requires { ⌜ (2 ≤ i) × (3 * (i - 2) + 2 < length (now nodes)) × Before n (now nodes) i ⌝ }
     ensures { λ r. ⌜ Says r (Node n (now (nodes .entry)) i × Kind cut (now (nodes .entry)) i) ⌝ }
 {
     let e = event_of(nodes, i);
     let f = failed_of(nodes, i);
     let s = sound_of(nodes, i);
-    if n <= e {
+    if !failed_ok(nodes, n, i, e, f, cut) {
         return false;
     }
-    if i <= f {
-        return false;
-    }
-    if i <= s {
-        return false;
-    }
-    if !above(nodes, e, f) {
-        return false;
-    }
-    if !above(nodes, e, s) {
+    if !sound_ok(nodes, i, e, s) {
         return false;
     }
     if cut {
-        return f != 0;
+        return true;
     }
     f != s
 }

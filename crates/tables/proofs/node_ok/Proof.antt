@@ -1,5 +1,4 @@
 -- `tables::node_ok` meets its contract. Assumes nothing.
-use native.Mathlib.Omega.{arith}
 use borrow.Author.Tests.{not-true, not-false}
 use Rattle.tables.proofs.Check.{no-failed, no-sound, last-cut, last-other}
 use borrow.Author.Needs.{needs}
@@ -15,56 +14,23 @@ failed-of-requires c κs = search needs
 sound-of-requires : tie.Need-sound-of-requires
 sound-of-requires c κs = search needs
 
+failed-ok-requires : tie.Need-failed-ok-requires
+failed-ok-requires c κs = search needs
+
 returns : tie.Need-returns
-returns c = search needs
+returns c = let a = c .before .before .before .before .before .before .args in no-failed (a .n) (a .nodes .now) (a .i) (c .before .before .before .before .event-of .ensures) (c .before .before .before .failed-of .ensures) (c .before .before .sound-of .ensures) (a .cut) (c .before .failed-ok .result) (not-true (c .before .failed-ok .result) (c .if1 .taken)) (c .before .failed-ok .ensures)
+
+sound-ok-requires : tie.Need-sound-ok-requires
+sound-ok-requires c κs = search needs
 
 returns-2 : tie.Need-returns-2
-returns-2 c = search needs
+returns-2 c = let a = c .before .before .before .before .before .before .before .before .args in no-sound (a .n) (a .nodes .now) (a .i) (c .before .before .before .before .before .before .event-of .ensures) (c .before .before .before .before .before .failed-of .ensures) (c .before .before .before .before .sound-of .ensures) (a .cut) (c .before .sound-ok .result) (not-true (c .before .sound-ok .result) (c .if2 .taken)) (c .before .sound-ok .ensures)
 
 returns-3 : tie.Need-returns-3
-returns-3 c = search needs
-
-above-requires : tie.Need-above-requires
-above-requires c κs = search needs
+returns-3 c = let a = c .before .before .before .before .before .before .before .before .before .args in last-cut (a .n) (a .nodes .now) (a .i) (c .before .before .before .before .before .before .before .event-of .ensures) (c .before .before .before .before .before .before .failed-of .ensures) (c .before .before .before .before .before .sound-of .ensures) (a .cut) (c .before .before .before .before .failed-ok .result) (c .before .before .sound-ok .result) (not-false (c .before .before .before .before .failed-ok .result) (c .before .before .before .if1 .left)) (not-false (c .before .before .sound-ok .result) (c .before .if2 .left)) (c .before .before .before .before .failed-ok .ensures) (c .before .before .sound-ok .ensures) (c .if3 .taken)
 
 returns-4 : tie.Need-returns-4
-returns-4 c =
-    let at = c .before .before .before .before .before .before .before .before .before in
-    let answer = c .before .above in
-    no-failed (at .args .n) (at .args .nodes .now) (at .args .i)
-    (c .before .before .before .before .before .before .before .event-of .ensures) (c .before .before .before .before .before .before .failed-of .ensures) (c .before .before .before .before .before .sound-of .ensures)
-    (at .args .cut) (answer .result) (not-true (answer .result) (c .if4 .taken)) (answer .ensures)
-
-above-requires-2 : tie.Need-above-requires-2
-above-requires-2 c κs = search needs
-
-returns-5 : tie.Need-returns-5
-returns-5 c =
-    let at = c .before .before .before .before .before .before .before .before .before .before .before in
-    let answer = c .before .above2 in
-    no-sound (at .args .n) (at .args .nodes .now) (at .args .i)
-    (c .before .before .before .before .before .before .before .before .before .event-of .ensures) (c .before .before .before .before .before .before .before .before .failed-of .ensures) (c .before .before .before .before .before .before .before .sound-of .ensures)
-    (at .args .cut) (answer .result) (not-true (answer .result) (c .if5 .taken)) (answer .ensures)
-
-returns-6 : tie.Need-returns-6
-returns-6 c =
-    let at = c .before .before .before .before .before .before .before .before .before .before .before .before in
-    let f = c .before .before .before .before .above in
-    let s = c .before .before .above2 in
-    last-cut (at .args .n) (at .args .nodes .now) (at .args .i)
-    (c .before .before .before .before .before .before .before .before .before .before .event-of .ensures) (c .before .before .before .before .before .before .before .before .before .failed-of .ensures) (c .before .before .before .before .before .before .before .before .sound-of .ensures)
-    (at .args .cut) (f .result) (s .result) (omega arith) (omega arith) (omega arith)
-    (not-false (f .result) (c .before .before .before .if4 .left)) (not-false (s .result) (c .before .if5 .left)) (f .ensures) (s .ensures) (c .if6 .taken)
-
-returns-7 : tie.Need-returns-7
-returns-7 c =
-    let at = c .before .before .before .before .before .before .before .before .before .before .before .before in
-    let f = c .before .before .before .before .above in
-    let s = c .before .before .above2 in
-    last-other (at .args .n) (at .args .nodes .now) (at .args .i)
-    (c .before .before .before .before .before .before .before .before .before .before .event-of .ensures) (c .before .before .before .before .before .before .before .before .before .failed-of .ensures) (c .before .before .before .before .before .before .before .before .sound-of .ensures)
-    (at .args .cut) (f .result) (s .result) (omega arith) (omega arith) (omega arith)
-    (not-false (f .result) (c .before .before .before .if4 .left)) (not-false (s .result) (c .before .if5 .left)) (f .ensures) (s .ensures) (c .if6 .left)
+returns-4 c = let a = c .before .before .before .before .before .before .before .before .before .args in last-other (a .n) (a .nodes .now) (a .i) (c .before .before .before .before .before .before .before .event-of .ensures) (c .before .before .before .before .before .before .failed-of .ensures) (c .before .before .before .before .before .sound-of .ensures) (a .cut) (c .before .before .before .before .failed-ok .result) (c .before .before .sound-ok .result) (not-false (c .before .before .before .before .failed-ok .result) (c .before .before .before .if1 .left)) (not-false (c .before .before .sound-ok .result) (c .before .if2 .left)) (c .before .before .before .before .failed-ok .ensures) (c .before .before .sound-ok .ensures) (c .if3 .left)
 
 pub node-ok-spec : {M : Type 1} → statement M
 node-ok-spec =
@@ -73,12 +39,9 @@ node-ok-spec =
     event-of-requires
     failed-of-requires
     sound-of-requires
+    failed-ok-requires
     returns
+    sound-ok-requires
     returns-2
     returns-3
-    above-requires
-    returns-4
-    above-requires-2
-    returns-5
-    returns-6
-    returns-7)
+    returns-4)

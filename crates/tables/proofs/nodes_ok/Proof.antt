@@ -21,7 +21,7 @@ add-loop : tie.Need-add-loop Inv-loop μ-loop
 add-loop c = omega arith
 
 node-ok-requires : tie.Need-node-ok-requires Inv-loop μ-loop
-node-ok-requires c κs = omega arith
+node-ok-requires c κs = (omega arith, omega arith, λ j two l. c .before .loop .inv .2 j l two .0 .event)
 
 returns : tie.Need-returns Inv-loop μ-loop
 returns c =
