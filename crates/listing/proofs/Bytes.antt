@@ -1,81 +1,33 @@
 -- The bytes of a path's cut, placed in a room and read back.
 -- Assumes nothing.
 use mathlib.Core.Path.{_≡_, refl, sym, ap, ap₂, _∙_, subst}
-use mathlib.Core.Bool.{true, false}
+use mathlib.Core.Bool.{true}
 use mathlib.Core.List.{List, [], _∷_, _++_, append-assoc, append-nil}
-use Prim.Native.Nat.{ℕ, zero, suc, _+_, _-_, _*_, _≤_, _<_}
-use native.Mathlib.Decide.{ℕ-discrete}
+use Prim.Native.Nat.{ℕ, suc, _+_, _-_, _*_, _≤_, _<_}
 use native.Mathlib.Nat.{le-of-eq}
 use native.Mathlib.Omega.{arith}
-use lib.ListN.{length, getD, take, drop, replicate, length-append, length-map, length-drop, length-take, drop-of-length-le}
+use lib.ListN.{length, getD, take, drop, replicate, length-append, length-drop, length-take, drop-of-length-le}
 use lib.Seq.{take-all, drop-drop, getD-append-add}
 use borrow.Rule.Slice.PartMut.{putMid, midOf, postOf, put-same}
-use Rattle.paper.specs.Lists.{keep, upTo}
-use Rattle.paper.specs.Sets.{Set, put, members, ofEvents}
+use Rattle.paper.specs.Sets.{Set, put, ofEvents}
 use Rattle.paper.specs.Listing.{memberBytes, cutBytes, setBytes}
-use Rattle.algebra.proofs.Base.{put-same as put-own, put-other}
 use Rattle.sets.specs.Words.{words, setOf, room}
 use Rattle.sets.proofs.Words.{empty-none}
 use Rattle.sets.specs.Bytes.{Laid}
 use Rattle.sets.proofs.Count.{cut-length}
-use Rattle.sets.proofs.Bytes.{keep-agree}
-use Rattle.tables.specs.Table.{eventOf}
-use Rattle.walk.specs.Paths.{eventsOf, along, Climbs, Open, Carries}
-use Rattle.walk.proofs.Paths.{climbs-weak, climbs-length, path-length}
+use Rattle.walk.specs.Paths.{eventsOf, along, Open, Carries}
+use Rattle.walk.proofs.Members.{path-members, events-length}
 use Rattle.listing.specs.Bytes.{Placed, picked}
 
--- ---- the members of a path's set are its events
+-- ---- the bytes of a path's set
 
--- below its first event a path's set has no member
-under : (T : List ℕ) (c : ℕ) (p : List ℕ) (m e : ℕ) → Climbs T c m p e → (j : ℕ) → j < m → along T p j ≡ false
-unfolding ofEvents
-under T c [] m e w j h = refl
-under T c (i ∷ p) m e w j h =
-    let a = w .2 in
-    put-other (eventOf T i) true (along T p) j (λ q. omega arith) ∙ under T c p (suc (eventOf T i)) e (w .3) j (omega arith)
-
-members-from : (T : List ℕ) (c : ℕ) (k m : ℕ) (p : List ℕ) → Climbs T c m p (m + k) → keep (along T p) (upTo k m) ≡ eventsOf T p
-unfolding ofEvents
-members-from T c zero m [] w = refl
-members-from T c zero m (i ∷ p) w = let l = climbs-length T c (i ∷ p) m (m + 0) w in absurd (omega arith)
-members-from T c (suc k) m [] w = members-from T c k (suc m) [] (omega arith)
-members-from T c (suc k) m (i ∷ p) w = go (ℕ-discrete (eventOf T i) m) (λ v. members-from T c k (suc m) p v) (λ v. members-from T c k (suc m) (i ∷ p) v)
-  where
-    end : m + suc k ≡ suc m + k
-    end = omega arith
-
-    rise : Climbs T c (suc (eventOf T i)) p (suc m + k)
-    rise = subst (λ (e : ℕ). Climbs T c (suc (eventOf T i)) p e) end (w .3)
-
-    go : Dec (eventOf T i ≡ m) → (Climbs T c (suc m) p (suc m + k) → keep (along T p) (upTo k (suc m)) ≡ eventsOf T p)
-        → (Climbs T c (suc m) (i ∷ p) (suc m + k) → keep (along T (i ∷ p)) (upTo k (suc m)) ≡ eventsOf T (i ∷ p)) → keep (along T (i ∷ p)) (upTo (suc k) m) ≡ eventsOf T (i ∷ p)
-    go (yes q) here on =
-        let holds : along T (i ∷ p) m ≡ true = ap (along T (i ∷ p)) (sym q) ∙ put-own (eventOf T i) true (along T p) in
-        let rest : keep (along T (i ∷ p)) (upTo k (suc m)) ≡ keep (along T p) (upTo k (suc m)) =
-        keep-agree (along T (i ∷ p)) (along T p) k (suc m) (λ j h _. put-other (eventOf T i) true (along T p) j (λ z. omega arith)) in
-        rw holds (ap₂ (λ (x : ℕ) (l : List ℕ). x ∷ l) (sym q) (rest ∙ here (subst (λ (x : ℕ). Climbs T c (suc x) p (suc m + k)) q rise)))
-    go (no q) here on =
-        let a = w .2 in
-        let above : Climbs T c (suc m) (i ∷ p) (suc m + k) = (w .0, w .1, omega arith, rise) in
-        rw (under T c (i ∷ p) (suc m) (suc m + k) above m (omega arith)) (on above)
-
--- THE MEMBERS of the set of a path, among the events of the diagram and more
 module _ {n : ℕ} {T : List ℕ} {c : ℕ} {P : List ℕ} {d at : ℕ} (o : Open n T c P d at) where
-  path-members : (k : ℕ) → n ≤ k → members k (along T (take d P)) ≡ eventsOf T (take d P)
-  path-members k h =
-      let l = o .low in
-      let e : k ≡ 0 + k = omega arith in
-      members-from T c k 0 (take d P) (subst (λ (x : ℕ). Climbs T c 0 (take d P) x) e (climbs-weak T c (take d P) 0 (o .end) k (omega arith) (o .climbs)))
-
-  -- so its bytes are those of the path's events, whatever the width
+  -- they are those of the path's events, whatever the width
   pub path-bytes : (k : ℕ) → n ≤ k → setBytes k (along T (take d P)) ≡ cutBytes (eventsOf T (take d P))
-  path-bytes k h = ap cutBytes (path-members k h)
-
-  pub events-length : length (eventsOf T (take d P)) ≡ d
-  events-length = length-map (take d P) (eventOf T) ∙ path-length o
+  path-bytes k h = ap cutBytes (path-members o k h)
 
   pub path-size : length (setBytes n (along T (take d P))) ≡ 2 * d + 1
-  path-size = ap length (path-bytes n (omega arith)) ∙ cut-length (eventsOf T (take d P)) ∙ ap (λ (x : ℕ). 2 * x + 1) events-length
+  path-size = ap length (path-bytes n (omega arith)) ∙ cut-length (eventsOf T (take d P)) ∙ ap (λ (x : ℕ). 2 * x + 1) (events-length o)
 
 -- the bytes of words that go with the path are those of the path
 module _ {n : ℕ} {T : List ℕ} {c : ℕ} {P : List ℕ} {d at : ℕ} (o : Open n T c P d at) {ws : List ℕ} (k : Carries T P d ws) where

@@ -16,10 +16,11 @@ use Rattle.sets.specs.Words.{setOf}
 use Rattle.sets.proofs.Bytes.{joined}
 use Rattle.walk.specs.Paths.{eventsOf, along, around, Open, leftOf, Reached}
 use Rattle.walk.proofs.Paths.{around-one}
+use Rattle.walk.proofs.Members.{events-length}
 use Rattle.listing.specs.Bytes.{Placed, picked}
 use Rattle.listing.specs.Answers.{Short}
 use Rattle.listing.specs.Calls.{Stopped, Listing, short, wrote}
-use Rattle.listing.proofs.Bytes.{path-bytes, path-size, events-length, picked-all}
+use Rattle.listing.proofs.Bytes.{path-bytes, path-size, picked-all}
 
 -- ---- lists of sets
 

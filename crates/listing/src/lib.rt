@@ -3,9 +3,10 @@ ghost use mathlib.Core.Path.{_≡_};
 ghost use mathlib.Core.Bool.{true};
 ghost use Prim.Native.Nat.{_+_, _-_, _*_, _/_, _≤_, _<_};
 ghost use lib.ListN.{length};
-ghost use Rattle.paper.specs.Sets.{ofEvents};
+ghost use Rattle.paper.specs.Sets.{members, ofEvents};
 ghost use Rattle.paper.specs.Listing.{setBytes};
 ghost use Rattle.sets.specs.Words.{words, setOf};
+ghost use Rattle.sets.specs.Beside.{Between, Ahead, Line};
 ghost use Rattle.tables.specs.Table.{den};
 ghost use Rattle.tables.specs.Lent.{Lent};
 ghost use Rattle.walk.specs.After.{toList};
@@ -16,12 +17,28 @@ ghost use Rattle.listing.specs.Calls.{Refusal, Stopped, Listing};
 // A path has at most one node for each event.
 pub const DEPTH: usize = paper::EVENTS;
 
-// Writes a cut behind the `used` bytes, if it fits there, and says how many bytes it took: 0 where it does not fit.
-fn put_next(set: &[u64; sets::WORDS], room: &mut [u8], used: usize) -> usize
-    requires { ⌜ (length (now set) ≡ words) × (used ≤ length (now room)) ⌝ }
-    ensures { λ r. ⌜ Placed (now (room .entry)) used (setBytes (length (now (set .entry)) * 64) (setOf (now (set .entry)))) r (now (room .exit)) ⌝ }
+// Writes a cut behind the `used` bytes, if it fits there, and says how many bytes it took: 0 where it does not fit. `ahead` and `line` are of the cut before,
+// and `step` says what stayed.
+fn put_next(
+    set: &[u64; sets::WORDS],
+    step: walk::Step,
+    ahead: &mut [usize; sets::WORDS],
+    line: &mut [u8; sets::LINE],
+    room: &mut [u8],
+    used: usize,
+) -> usize
+    requires { ⌜ (length (now set) ≡ words) × (used ≤ length (now room)) × Between (now set) (step .low) (step .high) × Ahead (now set) (step .low) (now ahead) × Line (now set) (step .low) (now line) × (step .kept ≡ length (members (step .low) (setOf (now set)))) ⌝ }
+    ensures { λ r. ⌜ Placed (now (room .entry)) used (setBytes (length (now (set .entry)) * 64) (setOf (now (set .entry)))) r (now (room .exit)) × Ahead (now (set .entry)) (step .high) (now (ahead .exit)) × (0 < r → Line (now (set .entry)) (length (now (set .entry)) * 64) (now (line .exit))) ⌝ }
 {
-    sets::write_cut(set, &mut room[used..])
+    sets::write_cut(
+        set,
+        step.kept,
+        step.low,
+        step.high,
+        ahead,
+        line,
+        &mut room[used..],
+    )
 }
 
 fn small(x: u8) -> usize
@@ -119,14 +136,14 @@ fn list_cuts(
 {
     let mut path = [0u32; DEPTH];
     let mut set = sets::empty();
-    let first = walk::start(nodes, n, count, root, begin, &base, &mut path, &mut set);
-    let mut found = first.found;
-    let mut depth = first.depth;
+    let mut ahead = [0usize; sets::WORDS];
+    let mut line = [0u8; sets::LINE];
+    let mut step = walk::start(nodes, n, count, root, begin, &base, &mut path, &mut set);
     let mut from = 0;
     let mut used = 0;
     let mut k = 0;
-    while found {
-        let w = put_next(&set, room, used);
+    while step.found {
+        let w = put_next(&set, step, &mut ahead, &mut line, room, used);
         if w == 0 {
             let last = last_set(room, from, used, base);
             return stopped(k, used, last);
@@ -134,9 +151,7 @@ fn list_cuts(
         from = used;
         used += w;
         k += 1;
-        let next = walk::advance(nodes, n, count, &mut path, &mut set, depth);
-        found = next.found;
-        depth = next.depth;
+        step = walk::advance(nodes, n, count, &mut path, &mut set, step.depth);
     }
     let last = last_set(room, from, used, base);
     done(k, used, last, true)

@@ -1,13 +1,13 @@
--- The bits of a number: trailing zeros, a single bit, `|`, `^` and `&`, and the number without its lowest set bit.
+-- The bits of a number: trailing zeros, a single bit, `|`, `^` and `&`, and the number without its lowest set bit, or without its low bits.
 -- Assumes nothing.
-use mathlib.Core.Path.{_≡_, refl, sym, ap, _∙_, subst}
-use Prim.Native.Nat.{ℕ, zero, suc, _+_, _-_, _/_, _%_, _^_, _<_, suc-le-suc, max, min}
-use native.Mathlib.Nat.{not-suc-le-zero, le-of-suc-le-suc, zero-lt-suc, mod-lt, pow-suc, zero-div}
+use mathlib.Core.Path.{_≡_, refl, sym, ap, ap₂, _∙_, subst}
+use Prim.Native.Nat.{ℕ, zero, suc, _+_, _-_, _*_, _/_, _%_, _^_, _≤_, _<_, suc-le-suc, max, min}
+use native.Mathlib.Nat.{not-suc-le-zero, le-of-suc-le-suc, zero-lt-suc, mod-lt, mul-assoc, pow-suc, zero-div}
 use native.Mathlib.Decide.{decLt}
 use native.Mathlib.Numerals.{add-one, one-add}
 use native.Mathlib.Omega.{arith}
 use lib.Arith.{digits-mod}
-use lib.Pow.{shr-shr, shr-lt}
+use lib.Pow.{shr-shr, shr-lt, shl-shr, shl-exact}
 use lib.Bits.{bitXor, bitOr, bitAnd, differ, xor-shr, xor-step, or-shr, or-step, and-shr, and-step}
 use lib.Count.{trailingZeros, under}
 use Rattle.sets.specs.Words.{bit, Trail}
@@ -138,3 +138,31 @@ drop-other {w} {t = t} r j n = bit-and w (w - 1) j ∙ go (decLt j t)
     go : Dec (j < t) → min (bit w j) (bit (w - 1) j) ≡ bit w j
     go (yes h) = low (bit w j) (bit (w - 1) j) (r .clear j h)
     go (no h) = same (bit w j) (bit (w - 1) j) (less-above t w j (r .set) (r .clear) (omega arith))
+
+-- ---- a word without its bits below place s, as the code shifts it down and up again
+
+abbrev pub fromBit : ℕ → ℕ → ℕ
+fromBit w s = (w / 2 ^ s * 2 ^ s) % 2 ^ 64
+
+up-low : (v s j : ℕ) → j < s → bit (v * 2 ^ s) j ≡ 0
+up-low v zero j h = absurd (omega arith)
+up-low v (suc s) j h = go j h (λ i l. up-low v s i l)
+  where
+    twice : v * 2 ^ suc s ≡ v * 2 ^ s * 2
+    twice = ap (λ (n : ℕ). v * n) (pow-suc 2 s) ∙ sym (mul-assoc v (2 ^ s) 2)
+
+    go : (j : ℕ) → j < suc s → ((i : ℕ) → i < s → bit (v * 2 ^ s) i ≡ 0) → bit (v * 2 ^ suc s) j ≡ 0
+    go zero l ih = bit-zero (v * 2 ^ suc s) ∙ omega (arith, twice)
+    go (suc j) l ih = let half : v * 2 ^ suc s / 2 ≡ v * 2 ^ s = omega (arith, twice) in bit-suc (v * 2 ^ suc s) j ∙ ap (λ (n : ℕ). bit n j) half ∙ ih j (omega arith)
+
+module _ (w s : ℕ) (f : w < 2 ^ 64) (h : s < 64) where
+  whole : fromBit w s ≡ w / 2 ^ s * 2 ^ s
+  whole = let e : 64 - s + s ≡ 64 = omega arith in shl-exact (64 - s) s 64 (shr-lt (64 - s) s (subst (λ (n : ℕ). w < 2 ^ n) (sym e) f)) (omega arith)
+
+  pub clear-below : (j : ℕ) → j < s → bit (fromBit w s) j ≡ 0
+  clear-below j l = ap (λ (n : ℕ). bit n j) whole ∙ up-low (w / 2 ^ s) s j l
+
+  pub clear-kept : (j : ℕ) → s ≤ j → bit (fromBit w s) j ≡ bit w j
+  clear-kept j l =
+      let at : s + (j - s) ≡ j = omega arith in
+      ap₂ bit whole (sym at) ∙ sym (bit-shift (w / 2 ^ s * 2 ^ s) s (j - s)) ∙ ap (λ (n : ℕ). bit n (j - s)) (shl-shr (w / 2 ^ s) s) ∙ bit-shift w s (j - s) ∙ ap (bit w) at

@@ -3,7 +3,7 @@
 use mathlib.Core.Path.{_≡_, refl, sym, ap, ap₂, _∙_}
 use mathlib.Core.Bool.{Bool, true, false, cond}
 use mathlib.Core.List.{List, [], _∷_, _++_, append-assoc, append-nil}
-use Prim.Native.Nat.{ℕ, zero, suc, _+_, _-_, _*_, _≤_, _<_}
+use Prim.Native.Nat.{ℕ, zero, suc, _+_, _-_, _*_, _/_, _%_, _^_, _≤_, _<_}
 use native.Mathlib.Nat.{zero-add}
 use native.Mathlib.Decide.{ℕ-discrete}
 use native.Mathlib.Numerals.{add-one}
@@ -14,25 +14,15 @@ use lib.Seq.{set-at, take-at, drop-cons, drop-drop, drop-append-add, length-take
 use lib.Bits.{bitAnd}
 use borrow.Author.Tests.{eq-eqb, ne-eqb}
 use Rattle.paper.specs.Lists.{keep, upTo}
-use Rattle.paper.specs.Sets.{Set, put, members}
-use Rattle.paper.specs.Listing.{memberBytes, cutBytes}
+use Rattle.paper.specs.Sets.{Set, none, put, members}
+use Rattle.paper.specs.Listing.{memberBytes, cutBytes, setBytes}
 use Rattle.sets.specs.Words.{bit, setOf, room, Trail}
-use Rattle.sets.specs.Bytes.{wordSet, inWord, Laid}
-use Rattle.sets.proofs.Bit.{bit-none, drop-own, drop-other}
+use Rattle.sets.specs.Bytes.{wordSet, inWord, Told, Spelled, Begun, Laid}
+use Rattle.sets.proofs.Bit.{bit-none, drop-own, drop-other, fromBit, clear-below, clear-kept}
 use Rattle.sets.proofs.Words.{set-in}
-use Rattle.sets.proofs.Count.{keep-add, members-length, cut-length}
+use Rattle.sets.proofs.Count.{keep-agree, keep-add, keep-no, fewer, members-length, cut-length}
 
 -- ---- the members among some events
-
--- they depend on those events alone
-pub keep-agree : (S U : Set) (k m : ℕ) → ((j : ℕ) → m ≤ j → j < m + k → S j ≡ U j) → keep S (upTo k m) ≡ keep U (upTo k m)
-keep-agree S U zero m h = refl
-keep-agree S U (suc k) m h = rw (h m (omega arith) (omega arith), keep-agree S U k (suc m) (λ j q r. h j (omega arith) (omega arith)))
-
--- none
-keep-no : (S : Set) (k m : ℕ) → ((j : ℕ) → S j ≡ false) → keep S (upTo k m) ≡ []
-keep-no S zero m h = refl
-keep-no S (suc k) m h = rw (h m) (keep-no S k (suc m) h)
 
 -- the lowest comes first, and the others are those without it
 keep-first : (S : Set) (k m t : ℕ) → m ≤ t → t < m + k → S t ≡ true → ((j : ℕ) → m ≤ j → j < t → S j ≡ false) → keep S (upTo k m) ≡ t ∷ keep (put t false S) (upTo k m)
@@ -51,7 +41,7 @@ keep-first S (suc k) m t l h e c = go (ℕ-discrete m t) (λ g. keep-first S k (
 
 pub word-none : (w m : ℕ) → w ≡ 0 → inWord w m ≡ []
 unfolding wordSet inWord
-word-none w m z = keep-no (wordSet w m) 64 m (λ j. ap (λ (n : ℕ). eqb n 1) (ap (λ (n : ℕ). bit n (j - m)) z ∙ bit-none (j - m)))
+word-none w m z = keep-no (wordSet w m) 64 m (λ j _. ap (λ (n : ℕ). eqb n 1) (ap (λ (n : ℕ). bit n (j - m)) z ∙ bit-none (j - m)))
 
 -- the lowest set bit, and the word without it
 pub word-more : (w m : ℕ) {t : ℕ} → Trail w 64 t → inWord w m ≡ (m + t) ∷ inWord (bitAnd w (w - 1)) m
@@ -83,28 +73,41 @@ members-word ws k =
     ap (λ (n : ℕ). members n (setOf ws)) end ∙ keep-add (setOf ws) (k * 64) 64 0
     ∙ ap (λ (l : List ℕ). members (k * 64) (setOf ws) ++ l) (ap (λ (n : ℕ). keep (setOf ws) (upTo 64 n)) (zero-add (k * 64)) ∙ sym (word-of ws k))
 
--- those among fewer events are no more, and all of them where they are as many
-module _ (S : Set) (a n : ℕ) (h : a ≤ n) where
-  two-parts : members n S ≡ members a S ++ keep S (upTo (n - a) (0 + a))
-  two-parts = let e : n ≡ a + (n - a) = omega arith in ap (λ (k : ℕ). members k S) e ∙ keep-add S a (n - a) 0
+-- those of event low's word from low on, behind those below low
+module _ (ws : List ℕ) (low : ℕ) (f : getD ws (low / 64) 0 < 2 ^ 64) where
+  abbrev word : ℕ
+  word = getD ws (low / 64) 0
 
-  fewer : length (members a S) ≤ length (members n S)
-  fewer =
-      let q : length (members n S) ≡ length (members a S) + length (keep S (upTo (n - a) (0 + a))) = ap length two-parts ∙ length-append (members a S) (keep S (upTo (n - a) (0 + a))) in
-      omega arith
+  abbrev part : ℕ
+  part = fromBit word (low % 64)
 
-  no-more : length (members a S) ≡ length (members n S) → members n S ≡ members a S
-  no-more e =
-      let q : length (members n S) ≡ length (members a S) + length (keep S (upTo (n - a) (0 + a))) = ap length two-parts ∙ length-append (members a S) (keep S (upTo (n - a) (0 + a))) in
-      two-parts ∙ ap (λ (l : List ℕ). members a S ++ l) (len-zero (keep S (upTo (n - a) (0 + a))) (omega arith)) ∙ append-nil (members a S)
-    where
-      len-zero : (l : List ℕ) → length l ≡ 0 → l ≡ []
-      len-zero [] z = refl
-      len-zero (x ∷ l) z = absurd (omega arith)
+  none-below : keep (wordSet part (low / 64 * 64)) (upTo (low % 64) (low / 64 * 64)) ≡ []
+  unfolding wordSet
+  none-below =
+      keep-agree (wordSet part (low / 64 * 64)) none (low % 64) (low / 64 * 64) (λ j p q. ap (λ (n : ℕ). eqb n 1) (clear-below word (low % 64) f (omega arith) (j - low / 64 * 64) (omega arith)))
+      ∙ keep-no none (low % 64) (low / 64 * 64) (λ j _. refl)
+
+  all-above : keep (wordSet part (low / 64 * 64)) (upTo (64 - low % 64) (low / 64 * 64 + low % 64)) ≡ keep (setOf ws) (upTo (64 - low % 64) (0 + low))
+  unfolding wordSet
+  all-above =
+      let here : low / 64 * 64 + low % 64 ≡ 0 + low = omega arith in
+      keep-agree (wordSet part (low / 64 * 64)) (setOf ws) (64 - low % 64) (low / 64 * 64 + low % 64) (λ j p q.
+      let at : low / 64 * 64 + (j - low / 64 * 64) ≡ j = omega arith in
+      ap (λ (n : ℕ). eqb n 1) (clear-kept word (low % 64) f (omega arith) (j - low / 64 * 64) (omega arith)) ∙ sym (ap (setOf ws) (sym at) ∙ set-in ws (low / 64) (j - low / 64 * 64) (omega arith)))
+      ∙ ap (λ (n : ℕ). keep (setOf ws) (upTo (64 - low % 64) n)) here
+
+  pub members-on : members ((low / 64 + 1) * 64) (setOf ws) ≡ members low (setOf ws) ++ inWord (fromBit (getD ws (low / 64) 0) (low % 64)) (low / 64 * 64)
+  unfolding inWord
+  members-on =
+      let end : (low / 64 + 1) * 64 ≡ low + (64 - low % 64) = omega arith in
+      let bits : 64 ≡ low % 64 + (64 - low % 64) = omega arith in
+      ap (λ (n : ℕ). members n (setOf ws)) end ∙ keep-add (setOf ws) low (64 - low % 64) 0
+      ∙ ap (λ (l : List ℕ). members low (setOf ws) ++ l)
+      (sym (ap (λ (n : ℕ). keep (wordSet part (low / 64 * 64)) (upTo n (low / 64 * 64))) bits ∙ keep-add (wordSet part (low / 64 * 64)) (low % 64) (64 - low % 64) (low / 64 * 64) ∙ ap₂ _++_ none-below all-above))
 
 -- ---- written
 
-bytes-append : (l r : List ℕ) → memberBytes (l ++ r) ≡ memberBytes l ++ memberBytes r
+pub bytes-append : (l r : List ℕ) → memberBytes (l ++ r) ≡ memberBytes l ++ memberBytes r
 unfolding memberBytes
 bytes-append [] r = refl
 bytes-append (x ∷ l) r = ap (λ (t : List ℕ). 0x21 ∷ x ∷ t) (bytes-append l r)
@@ -114,7 +117,7 @@ unfolding memberBytes
 bytes-more l e = bytes-append l (e ∷ [])
 
 -- a store at the seam of what is written and what is left
-seam : (w r : List ℕ) (n v : ℕ) → length w ≡ n → n < length r → set (w ++ drop n r) n v ≡ (w ++ (v ∷ [])) ++ drop (n + 1) r
+pub seam : (w r : List ℕ) (n v : ℕ) → length w ≡ n → n < length r → set (w ++ drop n r) n v ≡ (w ++ (v ∷ [])) ++ drop (n + 1) r
 seam w r n v e h =
     ap (λ (x : List ℕ). set (w ++ x) n v) (drop-cons r n 0 h) ∙ set-at w (getD r n 0) (drop (suc n) r) v n e
     ∙ ap (λ (k : ℕ). w ++ (v ∷ drop k r)) (sym (add-one n)) ∙ sym (append-assoc w (v ∷ []) (drop (n + 1) r))
@@ -202,109 +205,100 @@ module _ {w m at : ℕ} {r room : List ℕ} {v end : ℕ} (s : Telling w m at r 
               ∙ ap (λ (y : List ℕ). take at r ++ y) (sym (bytes-more (s .told) (m + t)))) here;
         }
 
-  pub tell-end : v ≡ 0 → (end ≡ at + length (memberBytes (inWord w m))) × (room ≡ take at r ++ (memberBytes (inWord w m) ++ drop end r))
+  pub tell-end : v ≡ 0 → Told w m at r room end
   tell-end z =
-      let whole : inWord w m ≡ s .told = s .whole ∙ ap (λ (l : List ℕ). s .told ++ l) (word-none v m z) ∙ append-nil (s .told) in (
-        s .ends ∙ ap (λ (n : ℕ). at + n) (sym (ap (λ (l : List ℕ). length (memberBytes l)) whole ∙ members-length (s .told))),
-        s .bytes ∙ append-assoc (take at r) (memberBytes (s .told)) (drop end r) ∙ ap (λ (l : List ℕ). take at r ++ (memberBytes l ++ drop end r)) (sym whole),
-      )
+      let whole : inWord w m ≡ s .told = s .whole ∙ ap (λ (l : List ℕ). s .told ++ l) (word-none v m z) ∙ append-nil (s .told) in
+      record {
+        ends = s .ends ∙ ap (λ (n : ℕ). at + n) (sym (ap (λ (l : List ℕ). length (memberBytes l)) whole ∙ members-length (s .told)));
+        bytes = s .bytes ∙ append-assoc (take at r) (memberBytes (s .told)) (drop end r) ∙ ap (λ (l : List ℕ). take at r ++ (memberBytes l ++ drop end r)) (sym whole);
+      }
 
 -- ---- the members of all words
 
--- those of the first k words are written at the front of the room r, which is long enough for all
-pub record Spelling (ws r R : List ℕ) (k at : ℕ) : Type 0 where
-  pub low : k ≤ length ws
+-- those below event b are written at the front of the room r, which is long enough for all
+pub record Spelling (ws r R : List ℕ) (b end : ℕ) : Type 0 where
+  pub within : b ≤ room ws
   pub fits : length (memberBytes (members (room ws) (setOf ws))) ≤ length r
-  pub ends : at ≡ length (memberBytes (members (k * 64) (setOf ws)))
-  pub bytes : R ≡ memberBytes (members (k * 64) (setOf ws)) ++ drop at r
+  pub so-far : Spelled ws r R b end
 
-pub spell-start : (ws r : List ℕ) {size : ℕ} → size ≡ length (memberBytes (members (room ws) (setOf ws))) → size ≤ length r → Spelling ws r r 0 0
-unfolding memberBytes
-spell-start ws r q h = record { low = omega arith; fits = omega arith; ends = refl; bytes = refl }
+pub spell-start : {ws r : List ℕ} {b end : ℕ} → b ≤ room ws → Begun ws b r end → Spelling ws r r b end
+spell-start h g = record { within = h; fits = g .fits; so-far = g .begins }
 
-module _ {ws r R : List ℕ} {k at : ℕ} (s : Spelling ws r R k at) where
+module _ {ws r R : List ℕ} {b end : ℕ} (s : Spelling ws r R b end) where
   abbrev S : Set
   S = setOf ws
 
-  inside : at ≤ length r
-  inside =
+  written : {b′ : ℕ} → b′ ≤ room ws → length (memberBytes (members b′ S)) ≤ length r
+  written {b′} h =
       let f = s .fits in
-      let e = s .ends in
-      let l = s .low in
-      let a = members-length (members (k * 64) S) in
-      let b = members-length (members (room ws) S) in
-      let c = fewer S (k * 64) (room ws) (omega arith) in
+      let x = members-length (members b′ S) in
+      let y = members-length (members (room ws) S) in
+      let z = fewer S b′ (room ws) h in
       omega arith
 
   pub spell-long : length R ≡ length r
   spell-long =
-      let i = inside in
-      let e = s .ends in
-      ap length (s .bytes) ∙ length-append (memberBytes (members (k * 64) S)) (drop at r) ∙ ap₂ _+_ (sym e) (length-drop at r) ∙ omega arith
+      let i = written (s .within) in
+      let e = s .so-far .ends in
+      ap length (s .so-far .bytes) ∙ length-append (memberBytes (members b S)) (drop end r) ∙ ap₂ _+_ (sym e) (length-drop end r) ∙ omega arith
 
-  module _ (h : k < length ws) where
-    longer : length (memberBytes (members ((k + 1) * 64) S)) ≡ at + length (memberBytes (inWord (getD ws k 0) (k * 64)))
+  -- a word more, whose members come next
+  module _ {b′ : ℕ} (w m : ℕ) (h : b′ ≤ room ws) (more : members b′ S ≡ members b S ++ inWord w m) where
+    longer : length (memberBytes (members b′ S)) ≡ end + length (memberBytes (inWord w m))
     longer =
-        ap (λ (l : List ℕ). length (memberBytes l)) (members-word ws k) ∙ ap length (bytes-append (members (k * 64) S) (inWord (getD ws k 0) (k * 64)))
-        ∙ length-append (memberBytes (members (k * 64) S)) (memberBytes (inWord (getD ws k 0) (k * 64))) ∙ ap (λ (n : ℕ). n + length (memberBytes (inWord (getD ws k 0) (k * 64)))) (sym (s .ends))
+        ap (λ (l : List ℕ). length (memberBytes l)) more ∙ ap length (bytes-append (members b S) (inWord w m))
+        ∙ length-append (memberBytes (members b S)) (memberBytes (inWord w m)) ∙ ap (λ (n : ℕ). n + length (memberBytes (inWord w m))) (sym (s .so-far .ends))
 
-    pub spell-room : at + length (memberBytes (inWord (getD ws k 0) (k * 64))) ≤ length R
+    pub spell-room : end + length (memberBytes (inWord w m)) ≤ length R
     spell-room =
-        let f = s .fits in
+        let f = written h in
         let l = longer in
         let g = spell-long in
-        let a = members-length (members ((k + 1) * 64) S) in
-        let b = members-length (members (room ws) S) in
-        let c = fewer S ((k + 1) * 64) (room ws) (omega arith) in
         omega arith
 
-    pub spell-more : {at′ : ℕ} {R′ : List ℕ} → (at′ ≡ at + length (memberBytes (inWord (getD ws k 0) (k * 64)))) × (R′ ≡ take at R ++ (memberBytes (inWord (getD ws k 0) (k * 64)) ++ drop at′ R)) → Spelling ws r R′ (k + 1) at′
-    spell-more (e, b) =
-        let word = memberBytes (inWord (getD ws k 0) (k * 64)) in
+    pub spell-more : {end′ : ℕ} {R′ : List ℕ} → Told w m end R R′ end′ → Spelling ws r R′ b′ end′
+    spell-more t =
+        let e = t .ends in
+        let q = t .bytes in
+        let word = memberBytes (inWord w m) in
         record {
-          low = omega arith;
+          within = h;
           fits = s .fits;
-          ends = e ∙ sym longer;
-          bytes = b ∙ ap (λ (j : ℕ). take at R ++ (word ++ drop j R)) e ∙ joined R (memberBytes (members (k * 64) S)) word r at (length word) (sym (s .ends)) (s .bytes)
-              ∙ ap₂ (λ (x : List ℕ) (j : ℕ). x ++ drop j r) (sym (ap memberBytes (members-word ws k) ∙ bytes-append (members (k * 64) S) (inWord (getD ws k 0) (k * 64)))) (sym e);
+          so-far = record {
+            ends = e ∙ sym longer;
+            bytes = q ∙ ap (λ (j : ℕ). take end R ++ (word ++ drop j R)) e ∙ joined R (memberBytes (members b S)) word r end (length word) (sym (s .so-far .ends)) (s .so-far .bytes)
+                ∙ ap₂ (λ (x : List ℕ) (j : ℕ). x ++ drop j r) (sym (ap memberBytes more ∙ bytes-append (members b S) (inWord w m))) (sym e);
+          };
         }
 
-  -- all of them are, where no byte is left to write
-  pub spell-full : {size : ℕ} → size ≡ length (memberBytes (members (room ws) S)) → at ≡ size → R ≡ memberBytes (members (room ws) S) ++ drop size r
-  spell-full q e =
-      let l = s .low in
-      let a = members-length (members (k * 64) S) in
-      let b = members-length (members (room ws) S) in
-      let t = s .ends in
-      s .bytes ∙ ap₂ (λ (x : List ℕ) (j : ℕ). memberBytes x ++ drop j r) (sym (no-more S (k * 64) (room ws) (omega arith) (omega arith))) e
-
-  -- or where no word is left
-  pub spell-end : {size : ℕ} → size ≡ length (memberBytes (members (room ws) S)) → length ws ≤ k → R ≡ memberBytes (members (room ws) S) ++ drop size r
-  spell-end q h =
-      let l = s .low in
-      let all : k ≡ length ws = omega arith in
-      spell-full q (s .ends ∙ ap (λ (m : ℕ). length (memberBytes (members (m * 64) S))) all ∙ sym q)
+  -- all of them, where no member is left
+  pub spell-end : members (room ws) S ≡ members b S → Spelled ws r R (room ws) end
+  spell-end q = record {
+    ends = s .so-far .ends ∙ ap (λ (l : List ℕ). length (memberBytes l)) (sym q);
+    bytes = s .so-far .bytes ∙ ap (λ (l : List ℕ). memberBytes l ++ drop end r) (sym q);
+  }
 
 -- ---- a cut
 
 -- with the end of the cut behind its members
-pub laid-cut : (l r : List ℕ) {size : ℕ} {R : List ℕ} → size ≡ length (cutBytes l) → size ≤ length r → R ≡ memberBytes l ++ drop (size - 1) r → Laid (cutBytes l) r size (set R (size - 1) 0x22)
+pub laid-cut : (ws r : List ℕ) {size end : ℕ} {R : List ℕ} → size ≡ length (setBytes (room ws) (setOf ws)) → size ≤ length r → Spelled ws r R (room ws) end → Laid (setBytes (room ws) (setOf ws)) r (end + 1) (set R end 0x22)
 unfolding cutBytes
-laid-cut l r {size} {R} q h b =
+laid-cut ws r {size} {end} {R} q h s =
+    let l = members (room ws) (setOf ws) in
     let c = cut-length l in
     let a = members-length l in
-    let e : size - 1 + 1 ≡ size = omega arith in
+    let e = s .ends in
     record {
       short = λ z. absurd (omega arith);
-      laid = λ z. (q, h, ap (λ (x : List ℕ). set x (size - 1) 0x22) b ∙ seam (memberBytes l) r (size - 1) 0x22 (omega arith) (omega arith) ∙ ap (λ (j : ℕ). (memberBytes l ++ (0x22 ∷ [])) ++ drop j r) e);
+      laid = λ z. (omega arith, omega arith, ap (λ (x : List ℕ). set x end 0x22) (s .bytes) ∙ seam (memberBytes l) r end 0x22 (sym e) (omega arith));
     }
 
 pub laid-short : (cut r : List ℕ) {size : ℕ} → size ≡ length cut → length r < size → Laid cut r 0 r
 laid-short cut r q h = record { short = λ _. (omega arith, refl); laid = λ z. absurd (omega arith) }
 
--- the bytes of its members are one less
-pub members-less : (l : List ℕ) {size : ℕ} → size ≡ length (cutBytes l) → size - 1 ≡ length (memberBytes l)
-members-less l q = let c = cut-length l in let a = members-length l in omega arith
-
-pub cut-some : (l : List ℕ) {size : ℕ} → size ≡ length (cutBytes l) → 1 ≤ size
-cut-some l q = let c = cut-length l in omega arith
+-- where the whole cut fits, its members do
+pub members-fit : (ws r : List ℕ) {size : ℕ} → size ≡ length (setBytes (room ws) (setOf ws)) → size ≤ length r → length (memberBytes (members (room ws) (setOf ws))) < length r
+members-fit ws r q h =
+    let c = cut-length (members (room ws) (setOf ws)) in
+    let a = members-length (members (room ws) (setOf ws)) in
+    omega arith

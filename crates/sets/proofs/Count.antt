@@ -2,8 +2,8 @@
 -- Assumes nothing.
 use mathlib.Core.Path.{_≡_, refl, sym, ap, ap₂, _∙_, subst}
 use mathlib.Core.Bool.{Bool, true, false, cond}
-use mathlib.Core.List.{List, [], _∷_, _++_}
-use Prim.Native.Nat.{ℕ, zero, suc, _+_, _*_, _/_, _%_, _^_, _≤_, _<_}
+use mathlib.Core.List.{List, [], _∷_, _++_, append-nil}
+use Prim.Native.Nat.{ℕ, zero, suc, _+_, _-_, _*_, _/_, _%_, _^_, _≤_, _<_}
 use native.Mathlib.Nat.{zero-add, add-zero, suc-add, mod-lt, zero-lt-suc}
 use native.Mathlib.Numerals.{add-one}
 use native.Mathlib.Omega.{arith}
@@ -13,11 +13,16 @@ use lib.Pow.{shr-lt}
 use lib.ListN.{length, getD, length-append}
 use lib.Count.{ones, ones-step}
 use Rattle.paper.specs.Lists.{keep, upTo}
-use Rattle.paper.specs.Sets.{Set, members}
+use Rattle.paper.specs.Sets.{Set, Within, members}
 use Rattle.paper.specs.Listing.{memberBytes, cutBytes, setBytes}
 use Rattle.sets.specs.Words.{bit, setOf}
 use Rattle.sets.proofs.Bit.{bit-suc, bit-zero}
 use Rattle.sets.proofs.Words.{set-in}
+
+-- the members among some events depend on those events alone
+pub keep-agree : (S U : Set) (k m : ℕ) → ((j : ℕ) → m ≤ j → j < m + k → S j ≡ U j) → keep S (upTo k m) ≡ keep U (upTo k m)
+keep-agree S U zero m h = refl
+keep-agree S U (suc k) m h = rw (h m (omega arith) (omega arith), keep-agree S U k (suc m) (λ j q r. h j (omega arith) (omega arith)))
 
 -- the members among a + b events, in two parts
 pub keep-add : (S : Set) (a b m : ℕ) → keep S (upTo (a + b) m) ≡ keep S (upTo a m) ++ keep S (upTo b (m + a))
@@ -30,6 +35,24 @@ keep-add S (suc a) b m =
     go : (l r x : List ℕ) (t : Bool) → l ≡ r ++ x → cond t (m ∷ l) l ≡ cond t (m ∷ r) r ++ x
     go l r x true e = ap (λ (y : List ℕ). m ∷ y) e
     go l r x false e = e
+
+-- none of them is a member
+pub keep-no : (S : Set) (k m : ℕ) → ((j : ℕ) → m ≤ j → S j ≡ false) → keep S (upTo k m) ≡ []
+keep-no S zero m h = refl
+keep-no S (suc k) m h = rw (h m (omega arith)) (keep-no S k (suc m) (λ j l. h j (omega arith)))
+
+-- the members among the first events, and the others: none, where no member is among the others
+module _ (S : Set) (a n : ℕ) (h : a ≤ n) where
+  pub two-parts : members n S ≡ members a S ++ keep S (upTo (n - a) (0 + a))
+  two-parts = let e : n ≡ a + (n - a) = omega arith in ap (λ (k : ℕ). members k S) e ∙ keep-add S a (n - a) 0
+
+  pub fewer : length (members a S) ≤ length (members n S)
+  fewer =
+      let q : length (members n S) ≡ length (members a S) + length (keep S (upTo (n - a) (0 + a))) = ap length two-parts ∙ length-append (members a S) (keep S (upTo (n - a) (0 + a))) in
+      omega arith
+
+  pub members-all : Within a S → members n S ≡ members a S
+  members-all w = two-parts ∙ ap (λ (l : List ℕ). members a S ++ l) (keep-no S (n - a) (0 + a) (λ j l. w j (omega arith))) ∙ append-nil (members a S)
 
 -- at most all of them are members
 pub count-le : (S : Set) (k m : ℕ) → length (keep S (upTo k m)) ≤ k

@@ -1,5 +1,7 @@
--- The laws of bits, of sets in words, and of their bytes.
+-- The laws of bits, of sets in words, of their bytes, and of what stands beside them.
 pub mod Bit
 pub mod Words
 pub mod Count
 pub mod Bytes
+pub mod Beside
+pub mod Line

@@ -7,12 +7,16 @@ ghost use lib.ListN.{length, replicate, take, drop};
 ghost use Rattle.paper.specs.Sets.{put, members};
 ghost use Rattle.paper.specs.Listing.{memberBytes, setBytes};
 ghost use Rattle.sets.specs.Words.{words, setOf, room, Few, sizeOf, Trail, Lowest};
-ghost use Rattle.sets.specs.Bytes.{inWord, InByte, OneByte, Laid};
+ghost use Rattle.sets.specs.Bytes.{inWord, InByte, OneByte, Told, Spelled, Begun, Laid};
+ghost use Rattle.sets.specs.Beside.{Between, Ahead, Line};
 
 // A set that can hold every event of a tree has so many words, and holds so many events.
 pub const WORDS: usize = paper::EVENTS / 64;
 
 pub const MOST: usize = 64 * WORDS;
+
+// So many bytes its members have at most.
+pub const LINE: usize = 2 * MOST;
 
 // The place of the lowest set bit of a word that is not 0.
 fn low_bit(w: u64) -> usize
@@ -81,71 +85,96 @@ pub fn lowest(ws: &[u64], i: usize) -> usize
     lowest_word(ws, k + 1)
 }
 
-// The number of members.
-pub fn size(ws: &[u64]) -> usize
-    requires { ⌜ Few (now ws) ⌝ }
-    ensures { λ r. ⌜ r ≡ sizeOf (now (ws .entry)) ⌝ }
+// The number of members. Only the words from that of event `low` to that of event `high` are counted: `ahead` has how many stand ahead of the first of
+// them, no member is above `high`, and `ahead` is right up to the word of `high` next.
+fn recount(ws: &[u64], ahead: &mut [usize], low: usize, high: usize) -> usize
+    requires { ⌜ Few (now ws) × Between (now ws) low high × Ahead (now ws) low (now ahead) ⌝ }
+    ensures { λ r. ⌜ (r ≡ sizeOf (now (ws .entry))) × Ahead (now (ws .entry)) high (now (ahead .exit)) ⌝ }
 {
-    let mut k = 0;
-    let mut n = 0;
-    while k < ws.len() {
-        n += u64::count_ones(ws[k]) as usize;
+    let mut k = low / 64;
+    let mut n = ahead[k] + u64::count_ones(ws[k]) as usize;
+    while k < high / 64 {
         k += 1;
+        ahead[k] = n;
+        n += u64::count_ones(ws[k]) as usize;
     }
     n
 }
 
-// The number of bytes of a cut.
-pub fn cut_len(ws: &[u64]) -> usize
-    requires { ⌜ Few (now ws) ⌝ }
-    ensures { λ r. ⌜ r ≡ length (setBytes (room (now (ws .entry))) (setOf (now (ws .entry)))) ⌝ }
-{
-    2 * size(ws) + 1
-}
-
-// Writes the members that a word tells, of the 64 events from `base` on, behind `at` bytes; answers where they end.
-fn write_word(w: u64, base: usize, left: &mut [u8], at: usize) -> usize
-    requires { ⌜ InByte base × (at + length (memberBytes (inWord w base)) ≤ length (now left)) ⌝ }
-    ensures { λ r. ⌜ (r ≡ at + length (memberBytes (inWord w base))) × (now (left .exit) ≡ take at (now (left .entry)) ++ (memberBytes (inWord w base) ++ drop r (now (left .entry)))) ⌝ }
+// Writes the members that a word tells, of the 64 events from `base` on, behind `at` bytes of the line and of the room that is left; answers where they end.
+fn write_word(w: u64, base: usize, line: &mut [u8], left: &mut [u8], at: usize) -> usize
+    requires { ⌜ InByte base × (at + length (memberBytes (inWord w base)) ≤ length (now line)) × (at + length (memberBytes (inWord w base)) ≤ length (now left)) ⌝ }
+    ensures { λ r. ⌜ Told w base at (now (line .entry)) (now (line .exit)) r × Told w base at (now (left .entry)) (now (left .exit)) r ⌝ }
 {
     let mut v = w;
     let mut end = at;
     while v != 0 {
-        let t = low_bit(v);
+        let e = (base + low_bit(v)) as u8;
+        line[end] = 0x21;
+        line[end + 1] = e;
         left[end] = 0x21;
-        left[end + 1] = (base + t) as u8;
+        left[end + 1] = e;
         end += 2;
         v = v & (v - 1);
     }
     end
 }
 
-// Writes all members, whose bytes are `size`, at the front of the room that is left.
-fn write_members(ws: &[u64], left: &mut [u8], size: usize)
-    requires { ⌜ OneByte (now ws) × (size ≡ length (memberBytes (members (room (now ws)) (setOf (now ws))))) × (size ≤ length (now left)) ⌝ }
-    ensures { λ _. ⌜ now (left .exit) ≡ memberBytes (members (room (now (ws .entry))) (setOf (now (ws .entry)))) ++ drop size (now (left .entry)) ⌝ }
+// Writes the members from event `low` on, of which none is above event `high`, behind those below it in the line and in the room that is left: there they are
+// `at` bytes. Answers where all end.
+fn write_from(
+    ws: &[u64],
+    low: usize,
+    high: usize,
+    line: &mut [u8],
+    left: &mut [u8],
+    at: usize,
+) -> usize
+    requires { ⌜ OneByte (now ws) × Between (now ws) low high × Begun (now ws) low (now line) at × Begun (now ws) low (now left) at ⌝ }
+    ensures { λ r. ⌜ Spelled (now (ws .entry)) (now (line .entry)) (now (line .exit)) (room (now (ws .entry))) r × Spelled (now (ws .entry)) (now (left .entry)) (now (left .exit)) (room (now (ws .entry))) r ⌝ }
+{
+    let mut k = low / 64;
+    let mut end = write_word((ws[k] >> (low % 64)) << (low % 64), k * 64, line, left, at);
+    while k < high / 64 {
+        k += 1;
+        end = write_word(ws[k], k * 64, line, left, end);
+    }
+    end
+}
+
+// The first bytes of the line, `size` of them, at the front of the room that is left.
+fn copy(line: &[u8], left: &mut [u8], size: usize)
+    requires { ⌜ (size ≤ length (now line)) × (size ≤ length (now left)) ⌝ }
+    ensures { λ _. ⌜ now (left .exit) ≡ take size (now (line .entry)) ++ drop size (now (left .entry)) ⌝ }
 {
     let mut k = 0;
-    let mut at = 0;
-    while k < ws.len() {
-        at = write_word(ws[k], k * 64, left, at);
-        if at == size {
-            return;
-        }
+    while k < size {
+        left[k] = line[k];
         k += 1;
     }
 }
 
-// Writes a cut at the front of the room that is left, if it fits there, and says how many bytes it took: 0 where it does not fit.
-pub fn write_cut(ws: &[u64], left: &mut [u8]) -> usize
-    requires { ⌜ OneByte (now ws) ⌝ }
-    ensures { λ r. ⌜ Laid (setBytes (room (now (ws .entry))) (setOf (now (ws .entry)))) (now (left .entry)) r (now (left .exit)) ⌝ }
+// Writes a cut at the front of the room that is left, if it fits there, and says how many bytes it took: 0 where it does not fit. Ones give its size, and
+// trailing zeros each member. Only the events from `low` to `high` may have changed since the cut before: ones are counted again in their words alone, and
+// the members below `low`, which are `kept`, have their bytes in the line.
+pub fn write_cut(
+    ws: &[u64],
+    kept: usize,
+    low: usize,
+    high: usize,
+    ahead: &mut [usize],
+    line: &mut [u8],
+    left: &mut [u8],
+) -> usize
+    requires { ⌜ OneByte (now ws) × Between (now ws) low high × Ahead (now ws) low (now ahead) × Line (now ws) low (now line) × (kept ≡ length (members low (setOf (now ws)))) ⌝ }
+    ensures { λ r. ⌜ Laid (setBytes (room (now (ws .entry))) (setOf (now (ws .entry)))) (now (left .entry)) r (now (left .exit)) × Ahead (now (ws .entry)) high (now (ahead .exit)) × (0 < r → Line (now (ws .entry)) (room (now (ws .entry))) (now (line .exit))) ⌝ }
 {
-    let size = cut_len(ws);
+    let size = 2 * recount(ws, ahead, low, high) + 1;
     if left.len() < size {
         return 0;
     }
-    write_members(ws, left, size - 1);
-    left[size - 1] = 0x22;
-    size
+    copy(line, left, 2 * kept);
+    let end = write_from(ws, low, high, line, left, 2 * kept);
+    left[end] = 0x22;
+    end + 1
 }

@@ -3,7 +3,7 @@
 use mathlib.Core.Path.{_≡_, refl, sym, ap, ap₂, _∙_, subst, subst₂}
 use mathlib.Core.Bool.{Bool, true, false}
 use mathlib.Core.Logic.{_⊎_, inl, inr}
-use mathlib.Core.List.{List, [], _++_, map}
+use mathlib.Core.List.{List, [], _∷_, _++_, map}
 use Prim.Native.Nat.{ℕ, suc, _+_, _-_, _≤_, _<_}
 use native.Mathlib.Omega.{arith}
 use lib.ListN.{take, set}
@@ -18,7 +18,7 @@ use Rattle.sets.specs.Words.{setOf, Lowest}
 use Rattle.tables.specs.Table.{eventOf, failedOf, soundOf, den}
 use Rattle.walk.specs.Paths.{around, Open, Spotted, Reached}
 use Rattle.walk.specs.After.{toList}
-use Rattle.walk.proofs.Paths.{around-none, sets-0, sets-1, sets-node, branches, open-leaf, open-push, open-pass, around-push, here}
+use Rattle.walk.proofs.Paths.{around-none, sets-0, sets-1, sets-node, branches, open-push, open-pass, around-push, here}
 use Rattle.walk.proofs.Behind.{both-hold, both-lack, first-holds, second-holds, behind-same, behind-none}
 
 -- where the walk is: at the end of the path, with the events below i dealt with
@@ -154,13 +154,13 @@ module _ {n : ℕ} {T : List ℕ} {c : ℕ} {S : Set} {P : List ℕ} {d at i : �
         }
 
   -- at the leaf 1 with members left: the set without them comes after it
-  pub stop-one : at ≡ 1 → x < n → Spotted n T c P d 1 l
+  pub stop-one : at ≡ 1 → x < n → Spotted n T c P d at l
   stop-one q h =
       let up = lo .above (omega arith) in
       let comes : behind (n - i) i S none ≡ true = first-holds n i x S none up h (λ j p r. lo .clear j p r) (lo .is (omega arith)) refl in
-      let all : keep (behind (n - i) i S) (setsOf (den T at)) ≡ setsOf (den T 1) =
-      ap (λ (k : ℕ). keep (behind (n - i) i S) (setsOf (den T k))) q ∙ ap (keep (behind (n - i) i S)) (sets-1 T) ∙ rw comes (sym (sets-1 T)) in
-      record { path = open-leaf (w .path); bare = λ z. absurd (omega arith); is = w .is ∙ ap (around T (take d P)) all }
+      let one : setsOf (den T at) ≡ none ∷ [] = ap (λ (k : ℕ). setsOf (den T k)) q ∙ sets-1 T in
+      let all : keep (behind (n - i) i S) (setsOf (den T at)) ≡ setsOf (den T at) = ap (keep (behind (n - i) i S)) one ∙ rw comes (sym one) in
+      record { path = w .path; bare = λ z. absurd (omega arith); is = w .is ∙ ap (around T (take d P)) all }
 
   -- with none left: what the path leaves
   pub stop-end : n ≤ x → l ≡ around T (take d P) []

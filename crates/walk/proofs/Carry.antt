@@ -10,7 +10,7 @@ use native.Mathlib.Omega.{arith}
 use lib.ListN.{length, getD, take, set, replicate}
 use lib.Seq.{take-suc-set}
 use borrow.Author.Tests.{eq-eqb, ne-eqb}
-use Rattle.paper.specs.Sets.{Set, put, ofEvents}
+use Rattle.paper.specs.Sets.{Set, Within, put, ofEvents}
 use Rattle.algebra.proofs.Base.{put-same, put-other}
 use Rattle.sets.specs.Words.{words, setOf, room}
 use Rattle.sets.proofs.Words.{empty-none}
@@ -62,6 +62,14 @@ module _ {n : ℕ} {T : List ℕ} {c : ℕ} {P : List ℕ} {d at : ℕ} (o : Ope
   pub carries-zero : {z : ℕ} → d ≡ 0 → z ≡ 0 → Carries T P z ws
   carries-zero e z = record { long = k .long; is = k .is ∙ ap (λ (x : ℕ). along T (take x P)) (e ∙ sym z) }
 
+  -- events up to the path's end alone
+  pub carries-within : Within (o .end) (setOf ws)
+  carries-within j h = ap (λ (S : Set). S j) (k .is) ∙ above T c (take d P) 0 (o .end) (o .climbs) j h
+
+  pub carries-empty : d ≡ 0 → Within 0 (setOf ws)
+  unfolding ofEvents
+  carries-empty z j h = ap (λ (S : Set). S j) (k .is ∙ ap (λ (x : ℕ). along T (take x P)) z)
+
   -- the node put on the path
   module _ (two : 2 ≤ at) {e : ℕ} (qe : e ≡ eventOf T at) where
     pub carries-room : e < room ws
@@ -91,8 +99,15 @@ module _ {n : ℕ} {T : List ℕ} {c : ℕ} {P : List ℕ} {d at : ℕ} (o : Ope
         let low = o .low in
         (omega arith, ap (λ (S : Set). S e) whole ∙ put-same e true (along T (take (d - 1) P)))
 
+    lower : (j : ℕ) → e ≤ j → along T (take (d - 1) P) j ≡ false
+    lower j h = above T c (take (d - 1) P) 0 (eventOf T i) (top o some qi .0) j (omega arith)
+
+    popped : {S′ : Set} → S′ ≡ put e false (setOf ws) → S′ ≡ along T (take (d - 1) P)
+    popped q = q ∙ ap (put e false) whole ∙ undone e (along T (take (d - 1) P)) (lower e (omega arith))
+
     pub carries-pop : {ws′ : List ℕ} → length ws′ ≡ length ws → setOf ws′ ≡ put e false (setOf ws) → Carries T P (d - 1) ws′
-    carries-pop l q = record {
-      long = l ∙ k .long;
-      is = q ∙ ap (put e false) whole ∙ undone e (along T (take (d - 1) P)) (above T c (take (d - 1) P) 0 (eventOf T i) (top o some qi .0) e (omega arith));
-    }
+    carries-pop l q = record { long = l ∙ k .long; is = popped q }
+
+    -- its event was the highest
+    pub carries-lower : {S′ : Set} → S′ ≡ put e false (setOf ws) → Within e S′
+    carries-lower q j h = ap (λ (S : Set). S j) (popped q) ∙ lower j h

@@ -4,3 +4,5 @@ pub mod Steps
 pub mod Behind
 pub mod After
 pub mod Carry
+pub mod Members
+pub mod Follow

@@ -1,8 +1,8 @@
 -- `listing::put_next` meets its contract. Assumes nothing.
-use borrow.Author.Needs.{needs}
 use Rattle.paper.specs.Listing.{setBytes}
 use Rattle.sets.specs.Words.{setOf, room}
 use Rattle.listing.proofs.Bytes.{place}
+use borrow.Author.Needs.{needs}
 use Rattle.listing.proofs.put_next.Statement.{statement}
 use Rattle.listing.proofs.put_next.Tie as tie
 
@@ -22,7 +22,7 @@ same-length : tie.Need-same-length
 same-length c = search needs
 
 returns : tie.Need-returns
-returns c = let ws = c .before .before .before .before .before .before .args .set .now in place (c .before .before .before .before .before .before .args .room .now) (c .before .before .before .before .before .before .args .used) (setBytes (room ws) (setOf ws)) (c .before .before .before .before .before .before .pre .1) (c .before .before .write-cut .ensures)
+returns c = let a = c .before .before .before .before .before .before .before .before .args in let ws = a .set .now in (place (a .room .now) (a .used) (setBytes (room ws) (setOf ws)) (c .before .before .before .before .before .before .before .before .pre .1) (c .before .before .write-cut .ensures .0), c .before .before .write-cut .ensures .1, c .before .before .write-cut .ensures .2)
 
 pub put-next-spec : {M : Type 1} → statement M
 put-next-spec =

@@ -1,55 +1,67 @@
 -- `sets::write_word` meets its contract. Assumes nothing.
-use native.Mathlib.Omega.{arith}
 use lib.ListN.{length, length-set}
 use Rattle.sets.specs.Bytes.{inWord}
 use Rattle.sets.proofs.Bytes.{Telling, tell-start, tell-long, tell-less, tell-room, tell-more, tell-end}
+use native.Mathlib.Omega.{arith}
 use Rattle.sets.proofs.write_word.Statement.{statement}
 use Rattle.sets.proofs.write_word.Tie as tie
 
 abbrev Inv-loop : tie.InvT-loop
-Inv-loop w base left₀ at v₀ end₀ left v end = Telling w base at left₀ left v end
+Inv-loop w base line₀ left₀ at v₀ end₀ line left v end = Telling w base at line₀ line v end × Telling w base at left₀ left v end
 
 abbrev μ-loop : tie.MeasureT-loop
-μ-loop w base left₀ at v₀ end₀ left v end = length (inWord v base)
+μ-loop w base line₀ left₀ at v₀ end₀ line left v end = length (inWord v base)
 
 loop-holds : tie.Need-loop-holds Inv-loop μ-loop
-loop-holds c = tell-start (c .before .args .w) (c .before .args .base) (c .before .args .at) (c .before .args .left .now) (c .before .pre .1)
+loop-holds c = let a = c .before .before .args in (tell-start (a .w) (a .base) (a .at) (a .line .now) (c .before .before .pre .1), tell-start (a .w) (a .base) (a .at) (a .left .now) (c .before .before .pre .2))
 
 low-bit-requires : tie.Need-low-bit-requires Inv-loop μ-loop
 low-bit-requires c κs = omega arith
 
+add-e : tie.Need-add-e Inv-loop μ-loop
+add-e c = omega (arith, c .before .before .before .before .before .pre .0, c .low-bit .ensures .below)
+
+cast-e : tie.Need-cast-e Inv-loop μ-loop
+cast-e c = omega (arith, c .before .before .before .before .before .pre .0, c .low-bit .ensures .below)
+
+slice-write-line : tie.Need-slice-write-line Inv-loop μ-loop
+slice-write-line c = omega (arith, tell-room (c .before .before .loop .inv .0) (c .low-bit .ensures), tell-long (c .before .before .loop .inv .0))
+
+add-line : tie.Need-add-line Inv-loop μ-loop
+add-line c = omega (arith, tell-room (c .before .before .loop .inv .0) (c .low-bit .ensures))
+
+slice-write-line-2 : tie.Need-slice-write-line-2 Inv-loop μ-loop
+slice-write-line-2 c = simp length-set (omega (arith, tell-room (c .before .before .loop .inv .0) (c .low-bit .ensures), tell-long (c .before .before .loop .inv .0)))
+
 slice-write-left : tie.Need-slice-write-left Inv-loop μ-loop
-slice-write-left c = omega (arith, tell-room (c .before .before .loop .inv) (c .low-bit .ensures), tell-long (c .before .before .loop .inv))
+slice-write-left c = omega (arith, tell-room (c .before .before .loop .inv .1) (c .low-bit .ensures), tell-long (c .before .before .loop .inv .1))
 
 add-left : tie.Need-add-left Inv-loop μ-loop
-add-left c = omega (arith, c .before .before .before .before .pre .0, c .low-bit .ensures .below)
-
-cast-left : tie.Need-cast-left Inv-loop μ-loop
-cast-left c = omega (arith, c .before .before .before .before .pre .0, c .low-bit .ensures .below)
-
-add-left-2 : tie.Need-add-left-2 Inv-loop μ-loop
-add-left-2 c = omega (arith, tell-room (c .before .before .loop .inv) (c .low-bit .ensures))
+add-left c = omega (arith, tell-room (c .before .before .loop .inv .1) (c .low-bit .ensures))
 
 slice-write-left-2 : tie.Need-slice-write-left-2 Inv-loop μ-loop
-slice-write-left-2 c = simp length-set (omega (arith, tell-room (c .before .before .loop .inv) (c .low-bit .ensures), tell-long (c .before .before .loop .inv)))
+slice-write-left-2 c = simp length-set (omega (arith, tell-room (c .before .before .loop .inv .1) (c .low-bit .ensures), tell-long (c .before .before .loop .inv .1)))
 
 add-end : tie.Need-add-end Inv-loop μ-loop
-add-end c = omega (arith, tell-room (c .before .before .loop .inv) (c .low-bit .ensures))
+add-end c = omega (arith, tell-room (c .before .before .loop .inv .1) (c .low-bit .ensures))
 
 sub-v : tie.Need-sub-v Inv-loop μ-loop
 sub-v c = omega arith
 
 loop-less : tie.Need-loop-less Inv-loop μ-loop
-loop-less c = tell-less (c .before .before .loop .inv) (c .low-bit .ensures)
+loop-less c = tell-less (c .before .before .loop .inv .1) (c .low-bit .ensures)
 
 loop-again : tie.Need-loop-again Inv-loop μ-loop
-loop-again c = tell-more (c .before .before .loop .inv) (c .low-bit .ensures)
+loop-again c = (tell-more (c .before .before .loop .inv .0) (c .low-bit .ensures), tell-more (c .before .before .loop .inv .1) (c .low-bit .ensures))
 
 same-length : tie.Need-same-length Inv-loop μ-loop
-same-length c = tell-long (c .before .loop .inv)
+same-length c = tell-long (c .before .loop .inv .0)
+
+same-length-2 : tie.Need-same-length-2 Inv-loop μ-loop
+same-length-2 c = tell-long (c .before .loop .inv .1)
 
 returns : tie.Need-returns Inv-loop μ-loop
-returns c = tell-end (c .before .loop .inv) (omega arith)
+returns c = (tell-end (c .before .loop .inv .0) (omega arith), tell-end (c .before .loop .inv .1) (omega arith))
 
 pub write-word-spec : {M : Type 1} → statement M
 write-word-spec =
@@ -59,14 +71,18 @@ write-word-spec =
     μ-loop
     loop-holds
     low-bit-requires
+    add-e
+    cast-e
+    slice-write-line
+    add-line
+    slice-write-line-2
     slice-write-left
     add-left
-    cast-left
-    add-left-2
     slice-write-left-2
     add-end
     sub-v
     loop-less
     loop-again
     same-length
+    same-length-2
     returns)

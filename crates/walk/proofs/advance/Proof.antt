@@ -1,6 +1,8 @@
 -- `walk::advance` meets its contract. Assumes nothing.
-use borrow.Author.Needs.{needs}
 use Rattle.walk.proofs.Steps.{reached-from}
+use Rattle.walk.proofs.Members.{path-count}
+use Rattle.walk.proofs.Follow.{follows}
+use borrow.Author.Needs.{needs}
 use Rattle.walk.proofs.advance.Statement.{statement}
 use Rattle.walk.proofs.advance.Tie as tie
 
@@ -14,7 +16,13 @@ same-length : tie.Need-same-length
 same-length c = search needs
 
 returns : tie.Need-returns
-returns c = (reached-from (c .before .before .before .before .before .climb .ensures .0) (c .before .before .land .ensures .0), c .before .before .land .ensures .1)
+returns c = (reached-from (c .before .before .before .before .before .climb .ensures .0) (c .before .before .land .ensures .0), c .before .before .land .ensures .1, follows (c .before .before .before .before .before .climb .ensures .3) (path-count (c .before .before .before .before .before .climb .ensures .0 .path) (c .before .before .before .before .before .climb .ensures .1) (c .before .before .before .before .before .climb .ensures .2 .below)) (c .before .before .land .ensures .2) (c .before .before .land .ensures .3))
 
 pub advance-spec : {M : Type 1} → statement M
-advance-spec = tie.close (tie.spec climb-requires land-requires same-length returns)
+advance-spec =
+    tie.close
+    (tie.spec
+    climb-requires
+    land-requires
+    same-length
+    returns)
