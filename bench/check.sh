@@ -7,7 +7,7 @@ cargo build --release --offline --quiet -j1 --manifest-path tests/second/Cargo.t
 second=tests/second/target/release/second
 work=$(mktemp -d)
 trap 'rm -rf "$work"' EXIT
-cc -std=c11 -O2 -Wall -Wextra -Iinclude -o "$work/plain" bench/main.c "${2:-bench/plain.c}"
+cc -std=c11 -O2 -Wall -Wextra -Iinclude -o "$work/plain" bench/main.c ${2:-bench/plain.c bench/plain_listing.c}
 compared=0
 same() { # FILE ROOM MOST MEMO
     $second plain "$1" "$2" "$3" > "$work/second.out"

@@ -2,14 +2,11 @@
    layouts: the yardstick for the library's instructions. Nothing is proved here, and reading trusts its bytes.
 
    Each call does all that the library's does: it clears what is lent, checks what number 12 checks, and leaves
-   zeros. Reading a tree into memory and writing it have no counterpart here. */
+   zeros. Reading a tree into memory and writing it have no counterpart here. The listing is in plain_listing.c. */
 
-#include "matticklet.h"
+#include "plain.h"
 #include <stdio.h>
 #include <string.h>
-
-typedef uint32_t u32;
-typedef uint64_t u64;
 
 #define FULL UINT32_MAX
 #define D 1000000000u
@@ -42,10 +39,6 @@ void plain_probes(void)
 #else
 #define COUNT(what) ((void)0)
 #endif
-
-static inline u32 event_of(const u32 *triples, u32 node) { return triples[3 * (u64)node - 6]; }
-static inline u32 failed_of(const u32 *triples, u32 node) { return triples[3 * (u64)node - 5]; }
-static inline u32 sound_of(const u32 *triples, u32 node) { return triples[3 * (u64)node - 4]; }
 
 #ifndef SEARCHED
 #define SEARCHED(s, event, failed, sound, node) ((void)0)
@@ -332,122 +325,6 @@ void matticklet_analyse(const uint8_t *bytes, size_t bytes_length, u32 *nodes, s
     answer->nodes = count;
     answer->root = root;
     answer->cut_root = cut_root;
-}
-
-/* Number 12: range, numbering, rising events, and the rule of the diagram's kind. */
-static inline int is_diagram(const u32 *triples, size_t length, size_t events, size_t count, size_t root, int of_cuts)
-{
-    if (events < 1 || events > MATTICKLET_EVENTS || length % 3 != 0 || length > MATTICKLET_TABLE_NUMBERS) return 0;
-    if (count > length / 3 || root >= count + 2) return 0;
-    for (u32 node = 2; node < count + 2; node++) {
-        const u32 *triple = triples + 3 * (u64)node - 6;
-        u32 event = triple[0], failed = triple[1], sound = triple[2];
-        if (event >= events || failed >= node || sound >= node) return 0;
-        if (failed >= 2 && event_of(triples, failed) <= event) return 0;
-        if (sound >= 2 && event_of(triples, sound) <= event) return 0;
-        if (of_cuts ? failed == 0 : failed == sound) return 0;
-    }
-    return 1;
-}
-
-/* The lowest member from `from` on, or 256. */
-static inline u32 next_member(const u64 set[4], u32 from)
-{
-    if (from >= 256) return 256;
-    u32 word = from / 64;
-    u64 rest = set[word] & (~(u64)0 << (from % 64));
-    while (rest == 0) {
-        if (++word == 4) return 256;
-        rest = set[word];
-    }
-    return 64 * word + (u32)__builtin_ctzll(rest);
-}
-
-/* The path holds the nodes left by their failed branch: the members of the cut at hand. `top` is its end.
-   Going down failed branches always leads to the leaf 1. */
-static inline u32 *descend(const u32 *triples, u32 *top, u32 node)
-{
-    for (; node >= 2; node = failed_of(triples, node)) *top++ = node;
-    return top;
-}
-
-/* The path of the next cut, or a null pointer. */
-static inline u32 *following(const u32 *triples, u32 *path, u32 *top)
-{
-    while (top > path) {
-        u32 sound = sound_of(triples, *--top);
-        if (sound != 0) return descend(triples, top, sound);
-    }
-    return NULL;
-}
-
-/* The first cut after the set. */
-static u32 *seek(const u32 *triples, u32 *path, u32 node, const u64 after[4])
-{
-    u32 *top = path;
-    u32 decided = 0;
-    while (node >= 2) {
-        u32 event = event_of(triples, node);
-        u32 member = next_member(after, decided);
-        if (member < event) return descend(triples, top, node);
-        decided = event + 1;
-        if (member == event) {
-            *top++ = node;
-            node = failed_of(triples, node);
-        } else
-            node = sound_of(triples, node);
-    }
-    if (node == 1 && next_member(after, decided) < 256) return top;
-    return following(triples, path, top);
-}
-
-/* The set of a cut's bytes. */
-static void set_of(const uint8_t *cut, u64 set[4])
-{
-    memset(set, 0, 4 * sizeof set[0]);
-    for (; cut[0] == MATTICKLET_MEMBER; cut += 2) set[cut[1] / 64] |= (u64)1 << (cut[1] % 64);
-}
-
-void matticklet_list(const u32 *cuts, size_t cuts_length, size_t events, size_t count, size_t root, bool begin,
-                     const u64 after[4], uint8_t *room, size_t room_length, struct matticklet_listing *answer)
-{
-    *answer = (struct matticklet_listing){0};
-    if (!is_diagram(cuts, cuts_length, events, count, root, 1)) {
-        answer->number = 12;
-        return;
-    }
-    if (!begin && next_member(after, (u32)events) < 256) {
-        answer->number = 13;
-        return;
-    }
-    u32 path[MATTICKLET_EVENTS], *top;
-    if (!begin)
-        top = seek(cuts, path, (u32)root, after);
-    else
-        top = root == 0 ? NULL : descend(cuts, path, (u32)root);
-    uint8_t *cut = room, *end = room, *limit = room + room_length;
-    u64 written = 0;
-    while (top && 2 * (top - path) + 1 <= limit - end) {
-        cut = end;
-        for (const u32 *node = path; node < top; node++, end += 2) {
-            end[0] = MATTICKLET_MEMBER;
-            end[1] = (uint8_t)event_of(cuts, *node);
-        }
-        *end++ = MATTICKLET_CUT_END;
-        written++;
-        top = following(cuts, path, top);
-    }
-    if (top && written == 0) {
-        answer->number = 14;
-        return;
-    }
-    answer->cuts = written;
-    answer->used = (u64)(end - room);
-    answer->finished = !top;
-    if (written > 0)
-        set_of(cut, answer->last);
-    else if (!begin)
-        memcpy(answer->last, after, sizeof answer->last);
 }
 
 static inline u32 mixed(u64 a, u64 failed, u64 sound, u64 round) { return (u32)((a * failed + (D - a) * sound + round) / D); }

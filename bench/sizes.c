@@ -5,7 +5,7 @@
    Under callgrind (--collect-atstart=no) it dumps the instructions of both: library, plain. It fails if they answer differently. */
 
 #define _DEFAULT_SOURCE
-#include "matticklet.h"
+#include "plain.h"
 #include <stdio.h>
 #include <stdlib.h>
 #include <string.h>
@@ -24,28 +24,12 @@
         CALLGRIND_DUMP_STATS_AT(name); \
     } while (0)
 
-typedef uint32_t u32;
-typedef uint64_t u64;
 typedef unsigned long long number;
 enum { SIZES = MATTICKLET_EVENTS + 1, MEMO = 4 * 65536 };
 
 /* ---- the plain program */
 
 static inline const u32 *triple(const u32 *cuts, u64 node) { return cuts + 3 * node - 6; }
-
-/* Number 12: range, numbering, rising events, and no failed branch 0. */
-static int is_diagram(const u32 *cuts, size_t length, size_t events, size_t count, size_t root)
-{
-    if (events < 1 || events > MATTICKLET_EVENTS || length % 3 != 0 || length > MATTICKLET_TABLE_NUMBERS) return 0;
-    if (count > length / 3 || root >= count + 2) return 0;
-    for (u32 node = 2; node < count + 2; node++) {
-        u32 event = triple(cuts, node)[0], failed = triple(cuts, node)[1], sound = triple(cuts, node)[2];
-        if (event >= events || failed >= node || sound >= node || failed == 0) return 0;
-        if (failed >= 2 && triple(cuts, failed)[0] <= event) return 0;
-        if (sound >= 2 && triple(cuts, sound)[0] <= event) return 0;
-    }
-    return 1;
-}
 
 /* Lists the nodes that the root reaches, in rising order; how many. */
 static size_t list_reached(const u32 *cuts, size_t root, u64 *reached)
@@ -87,7 +71,7 @@ static int one_size(const u32 *cuts, const u64 *reached, size_t many, u64 k, con
 static u64 plain_sizes(const u32 *cuts, size_t cuts_length, size_t events, size_t count, size_t root, u64 *counts, size_t counts_length,
                        u64 *less, size_t less_length, u64 *work, size_t work_length, u64 *reached, size_t reached_length)
 {
-    if (!is_diagram(cuts, cuts_length, events, count, root)) return 12;
+    if (!is_diagram(cuts, cuts_length, events, count, root, 1)) return 12;
     size_t least = cuts_length / 3 + 2;
     if (counts_length < SIZES || less_length < least || work_length < least || reached_length < least) return 9;
     u64 totals[SIZES] = {0};

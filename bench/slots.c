@@ -15,7 +15,6 @@
 static void searched(int in_cuts, uint32_t event, uint32_t failed, uint32_t sound, uint32_t node);
 #define SEARCHED(s, event, failed, sound, node) searched((s)->nodes != NULL, event, failed, sound, node)
 #define matticklet_analyse plain_analyse
-#define matticklet_list plain_list
 #define matticklet_bracket plain_bracket
 #include "plain.c"
 #undef matticklet_analyse
