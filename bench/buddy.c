@@ -40,14 +40,14 @@ static BDD gate(const uint8_t **at, const BDD *gates)
     int input[MATTICKLET_GATE_INPUTS], count = 0;
     b += kind == 4 ? 3 : 2;
     for (int i = 0; i < n; i++) {
-        input[count] = b[0] == 5 ? b[1] : 256 + (b[1] | b[2] << 8);
+        input[count] = b[0] == 5 ? b[1] : (b[0] == 6 ? MATTICKLET_EVENTS : 0) + (b[1] | b[2] << 8);
         b += b[0] == 5 ? 2 : 3;
         int j = 0; /* at-least counts each input once, at its first place */
         while (kind == 4 && input[j] != input[count]) j++;
         if (kind != 4 || j == count) count++;
     }
     *at = b;
-    for (int i = 0; i < count; i++) operand[i] = input[i] < 256 ? bdd_ithvar(input[i]) : gates[input[i] - 256];
+    for (int i = 0; i < count; i++) operand[i] = input[i] < MATTICKLET_EVENTS ? bdd_ithvar(input[i]) : gates[input[i] - MATTICKLET_EVENTS];
     if (kind == 4) return at_least(k, count, operand);
     BDD r = bdd_addref(operand[0]);
     for (int i = 1; i < count; i++) r = joined(kind == 3, r, operand[i]);
@@ -56,7 +56,7 @@ static BDD gate(const uint8_t **at, const BDD *gates)
 
 int main(int words, char **word)
 {
-    static uint8_t bytes[16384 + 1];
+    static uint8_t bytes[MATTICKLET_TREE_BYTES + 1];
     static BDD gates[MATTICKLET_GATES];
     if (words < 4) return 2;
     FILE *file = fopen(word[1], "rb");

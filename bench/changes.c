@@ -15,35 +15,56 @@
 #include <string.h>
 #include <time.h>
 
-enum { MEMBER = 0x21, END = 0x22, MOST = 8 };
+enum { MEMBER = 0x21, END = 0x22, WIDE = 0x23, FIRST_WIDE = 256, NONE = MATTICKLET_EVENTS, MOST = 8 };
 
 typedef const uint8_t *bytes;
+
+static int width(int event)
+{
+    return event < FIRST_WIDE ? 2 : 3;
+}
+
+/* The event of the member at p, where a cut is known to stand; NONE at the cut's end. */
+static int member(bytes p)
+{
+    return *p == MEMBER ? p[1] : *p == WIDE ? p[1] + 256 * p[2] : NONE;
+}
+
+/* The same where anything may stand: NONE where no member does. */
+static int judged(bytes p, bytes end)
+{
+    if (end - p < 2) return NONE;
+    if (*p == MEMBER) return p[1];
+    if (*p != WIDE || end - p < 3) return NONE;
+    int event = p[1] + 256 * p[2];
+    return event < FIRST_WIDE || event > NONE ? NONE : event;
+}
 
 /* The end of the cut at p, behind the cut at last if there is one; 0 where no such cut stands there. */
 static bytes behind(bytes last, bytes p, bytes end)
 {
-    int low = 0;
+    int low = 0, event = judged(p, end);
     if (last) {
-        while (*last == MEMBER && end - p >= 2 && *p == MEMBER && last[1] == p[1]) last += 2, p += 2;
-        if (*last != MEMBER) return 0;
-        low = last[1] + 1;
+        int before;
+        while ((before = member(last)) == event && event < NONE) last += width(event), p += width(event), event = judged(p, end);
+        if (before == NONE) return 0;
+        low = before + 1;
     }
-    while (p < end) {
-        if (*p == END) return p + 1;
-        if (*p != MEMBER || end - p < 2 || p[1] < low) return 0;
-        low = p[1] + 1;
-        p += 2;
+    while (event < NONE) {
+        if (event < low) return 0;
+        low = event + 1;
+        p += width(event);
+        event = judged(p, end);
     }
-    return 0;
+    return p < end && *p == END ? p + 1 : 0;
 }
 
 /* Below 0 where the cut at p stands first, above 0 where that at q does. */
 static int order(bytes p, bytes q)
 {
-    while (*p == MEMBER && *q == MEMBER && p[1] == q[1]) p += 2, q += 2;
-    if (*p != MEMBER) return *q == MEMBER;
-    if (*q != MEMBER) return -1;
-    return p[1] < q[1] ? -1 : 1;
+    int e, f;
+    while ((e = member(p)) == (f = member(q)) && e < NONE) p += width(e), q += width(e);
+    return e - f;
 }
 
 /* Counts the cuts from p on, of which the first ends at `stop`; whether they reach the listing's end. */
@@ -124,10 +145,11 @@ static struct listing made(int events, int members, unsigned one_in, uint64_t se
     for (;;) {
         seed = seed * 6364136223846793005u + 1442695040888963407u;
         if (!one_in || (seed >> 33) % one_in) {
-            if (room < l.length + 2 * MOST + 1 && !(l.bytes = realloc(l.bytes, room = 2 * room + 4096))) exit(2);
+            if (room < l.length + 3 * MOST + 1 && !(l.bytes = realloc(l.bytes, room = 2 * room + 4096))) exit(2);
             for (k = 0; k < members; k++) {
-                l.bytes[l.length++] = MEMBER;
+                l.bytes[l.length++] = set[k] < FIRST_WIDE ? MEMBER : WIDE;
                 l.bytes[l.length++] = (uint8_t)set[k];
+                if (set[k] >= FIRST_WIDE) l.bytes[l.length++] = (uint8_t)(set[k] / 256);
             }
             l.bytes[l.length++] = END;
             l.cuts++;

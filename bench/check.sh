@@ -16,17 +16,22 @@ same() { # FILE ROOM MOST MEMO
     compared=$((compared + 1))
 }
 for tree in examples/*.tree; do
-    for memo in 0 1 1000 65536; do
-        [ $memo -lt 1000 ] && [ "$tree" = examples/european1.tree ] && continue
-        same "$tree" 513 100000 $memo
+    # Without a memo to speak of a large tree takes forever.
+    case $tree in */european1.tree | */metropolis.tree) memos="1000 65536" ;; *) memos="0 1 1000 65536" ;; esac
+    for memo in $memos; do
+        same "$tree" 2817 100000 $memo
     done
 done
-for size in small middle large; do
+for size in small middle large wide; do
     $second city $size | $second equations - > "$work/$size.tree"
     same "$work/$size.tree" 65536 100000 1000000
 done
 for seed in $(seq 1 ${1:-200}); do
     $second random $seed > "$work/random.tree"
     same "$work/random.tree" 600 500 $((seed % 7 * 100 + 4))
+done
+for seed in $(seq 1 $((${1:-200} / 4))); do
+    $second random $seed wide > "$work/wide.tree"
+    same "$work/wide.tree" 4000 500 1000
 done
 echo "$compared compared, 0 differ"

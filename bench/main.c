@@ -113,9 +113,9 @@ static void list_all(const struct matticklet_analysis *a, size_t events, size_t 
 /* Only what an accepted tree needs: its events' chances, and how many gates it has. */
 static size_t chances_of(const uint8_t *b, uint32_t *chances, size_t *gates)
 {
-    static const uint8_t width[] = {1, 5, 2, 2, 3, 2, 3, 1};
+    static const uint8_t width[] = {1, 5, 2, 2, 3, 2, 3, 1, 3};
     size_t events = 0;
-    for (*gates = 0; b[0] != 7; b += width[b[0] & 7]) {
+    for (*gates = 0; b[0] != 7; b += width[b[0]]) {
         if (b[0] == 1) chances[events++] = b[1] | b[2] << 8 | b[3] << 16 | (uint32_t)b[4] << 24;
         *gates += b[0] >= 2 && b[0] <= 4;
     }
@@ -128,7 +128,7 @@ void plain_probes(void);
 
 int main(int words, char **word)
 {
-    static uint8_t bytes[16384 + 1];
+    static uint8_t bytes[MATTICKLET_TREE_BYTES + 1];
     static uint32_t chances[MATTICKLET_EVENTS];
     if (words < 2) return 2;
     FILE *file = fopen(word[1], "rb");

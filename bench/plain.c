@@ -11,7 +11,7 @@
 #define FULL UINT32_MAX
 #define D 1000000000u
 
-enum { AND = 2, OR = 3, WITHOUT = 3 };
+enum { AND = 2, OR = 3, WITHOUT = 3, GATES_FROM = MATTICKLET_EVENTS };
 
 /* A table that grows, and the memo beside it. heads[h] is the last stored node with hash h or 0, next[k] the last
    one before it. A place of the memo is operation, F, G, result: 1 and, 2 or, 3 without, 0 for empty. */
@@ -25,7 +25,7 @@ typedef struct {
 typedef struct {
     u32 events, gates;
     uint8_t kind[MATTICKLET_GATES], k[MATTICKLET_GATES], n[MATTICKLET_GATES];
-    uint16_t input[MATTICKLET_INPUTS]; /* event e is e, gate g is 256 + g */
+    uint16_t input[MATTICKLET_INPUTS]; /* event e is e, gate g is GATES_FROM + g */
 } Tree;
 
 #ifdef PROBES
@@ -172,7 +172,7 @@ static u32 gate_node(Store *s, const u32 *gates, u32 kind, u32 k, u32 n, const u
     if (kind != AND && kind != OR) n = distinct(n, input, own), input = own;
     u32 operands[MATTICKLET_GATE_INPUTS] = {0};
     for (u32 i = 0; i < n; i++) {
-        operands[i] = input[i] < 256 ? find_or_add(s, input[i], 1, 0) : gates[input[i] - 256];
+        operands[i] = input[i] < GATES_FROM ? find_or_add(s, input[i], 1, 0) : gates[input[i] - GATES_FROM];
         if (operands[i] == FULL) return FULL;
     }
     if (kind != AND && kind != OR) return at_least(s, k, n, operands);
@@ -267,7 +267,8 @@ static void decode(const uint8_t *b, Tree *tree)
         case 2: case 3: tree->kind[tree->gates] = b[0], tree->n[tree->gates++] = b[1], b += 2; break;
         case 4: tree->kind[tree->gates] = 4, tree->k[tree->gates] = b[1], tree->n[tree->gates++] = b[2], b += 3; break;
         case 5: tree->input[inputs++] = b[1], b += 2; break;
-        case 6: tree->input[inputs++] = (uint16_t)(256 + (b[1] | b[2] << 8)), b += 3; break;
+        case 6: tree->input[inputs++] = (uint16_t)(GATES_FROM + (b[1] | b[2] << 8)), b += 3; break;
+        case 8: tree->input[inputs++] = (uint16_t)(b[1] | b[2] << 8), b += 3; break;
         default: return;
         }
     }

@@ -1,48 +1,56 @@
 /* Reads a tree by the library; callgrind counts the call alone.
 
-   read FILE     that tree
-   read worst    the longest tree that is accepted, made so that each search for a use goes as far as it can: the
-                 first 500 gates use event 0 and gate 0 alone, the last 12 use all else */
+   read FILE            that tree
+   read worst EVENTS    the longest tree of so many events that is accepted, from 256 on, made so that each search for a use goes as far as it can:
+                        its first gates use event 0 and gate 0 alone, its last ones all else */
 
 #include "matticklet.h"
 #include <stdio.h>
+#include <stdlib.h>
 #include <string.h>
 #include <valgrind/callgrind.h>
 
-static uint8_t bytes[16384], *end = bytes;
+static uint8_t bytes[MATTICKLET_TREE_BYTES + 1], *end = bytes;
 
 static void put(int kind, int a, int b)
 {
     *end++ = (uint8_t)kind;
     if (kind != 7) *end++ = (uint8_t)a;
-    if (kind == 4 || kind == 6) *end++ = (uint8_t)b;
+    if (kind == 4 || kind == 6 || kind == 8) *end++ = (uint8_t)b;
 }
 
 static void put_gate_input(int gate) { put(6, gate & 255, gate >> 8); }
 
-static void worst(void)
+static void put_event_input(int event) { put(event < 256 ? 5 : 8, event & 255, event >> 8); }
+
+static void worst(int events)
 {
-    for (int e = 0; e < MATTICKLET_EVENTS; e++) {
+    /* Used by the last gates: every event but event 0, every gate but gate 0 and the root; gate 0 again where there is room. */
+    int used = events - 1 + MATTICKLET_GATES - 2;
+    int last = (used + MATTICKLET_GATE_INPUTS - 1) / MATTICKLET_GATE_INPUTS, first = MATTICKLET_GATES - last;
+    int again = MATTICKLET_GATE_INPUTS * last - used;
+    for (int e = 0; e < events; e++) {
         put(1, 0, 0);
         memset(end, 0, 3);
         end += 3;
     }
     put(4, 1, 1);
-    put(5, 0, 0);
-    for (int g = 1; g < 500; g++) {
-        int n = g <= 333 ? 7 : 6;
+    put_event_input(0);
+    int rest = MATTICKLET_INPUTS - 1 - MATTICKLET_GATE_INPUTS * last;
+    for (int g = 1; g < first; g++) {
+        int n = rest / (first - 1) + (g <= rest % (first - 1));
         put(4, 1, n);
         while (n-- > 0) put_gate_input(0);
     }
-    /* 768 inputs: 255 events, 499 gates, the 11 gates before the root, and gate 0 three times */
     int event = 1, gate = 1;
-    for (int g = 500; g < 512; g++) {
-        put(4, 1, 64);
-        for (int i = 0; i < 64; i++) {
-            if (g == 511 && i >= 53) put_gate_input(500 + i - 53);
-            else if (g == 500 && i < 3) put_gate_input(0);
-            else if (gate < 500) put_gate_input(gate++);
-            else put(5, event++, 0);
+    for (int g = first; g < MATTICKLET_GATES; g++) {
+        put(4, 1, MATTICKLET_GATE_INPUTS);
+        for (int i = 0; i < MATTICKLET_GATE_INPUTS; i++) {
+            int own = i - MATTICKLET_GATE_INPUTS + last - 1; /* the root's last inputs are the gates before it */
+            if (g == MATTICKLET_GATES - 1 && own >= 0) put_gate_input(first + own);
+            else if (again > 0) put_gate_input(0), again--;
+            else if (gate < first) put_gate_input(gate++);
+            else put_event_input(event++);
         }
     }
     put(7, 0, 0);
@@ -54,8 +62,8 @@ int main(int words, char **word)
     static uint8_t kinds[MATTICKLET_GATES], leasts[MATTICKLET_GATES], sizes[MATTICKLET_GATES];
     static uint16_t inputs[MATTICKLET_INPUTS];
     if (words < 2) return 2;
-    if (!strcmp(word[1], "worst"))
-        worst();
+    if (words > 2 && !strcmp(word[1], "worst"))
+        worst(atoi(word[2]));
     else {
         FILE *file = fopen(word[1], "rb");
         if (!file) return 2;

@@ -58,7 +58,7 @@ static struct matticklet_listing turns(size_t r, const uint64_t after[MATTICKLET
 {
     struct matticklet_listing library = {0};
     for (size_t p = 0; p < PROGRAMS; p++) {
-        struct matticklet_listing l;
+        struct matticklet_listing l = {0};
         if (first_round) memset(lent.room, 0xA5, lent.room_length);
         double start = now();
         programs[p].call(lent.cuts, lent.length, lent.events, lent.count, lent.root, r == 0, after, lent.room, lent.room_length, &l);
@@ -77,7 +77,7 @@ static struct matticklet_listing turns(size_t r, const uint64_t after[MATTICKLET
 
 static void analyse(const char *file_name, size_t nodes, size_t memo)
 {
-    static uint8_t bytes[16384 + 1];
+    static uint8_t bytes[MATTICKLET_TREE_BYTES + 1];
     FILE *file = fopen(file_name, "rb");
     size_t length = file ? fread(bytes, 1, sizeof bytes - 1, file) : 0, each = nodes + 2;
     if (!length) exit(2);

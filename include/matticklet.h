@@ -2,7 +2,7 @@
  *
  * Every call answers for any arguments and never fails otherwise: `number` is 0 for done, else the reason of a refusal (below).
  * The library holds no state, allocates nothing, and touches only what it is lent, until it returns. What memory that is lent to be
- * written holds before a call never matters. A call takes up to some 150 KB of stack (read off the compiled code, not proved).
+ * written holds before a call never matters. A call takes up to some 460 KB of stack (measured, not proved).
  *
  * A caller from C must keep what the language keeps for its own callers:
  *   - a pointer is never null, also where the length beside it is 0, and is aligned for its type;
@@ -43,38 +43,42 @@ enum {
     MATTICKLET_RING = 17,        /* a name that leads back to itself */
     MATTICKLET_ROOTS = 18,       /* not exactly one root */
     MATTICKLET_TOO_MANY = 19,    /* more than 2^64 - 1 cuts of one size */
-    MATTICKLET_BAD_LISTING = 20  /* a listing out of order, or with a bad record */
+    MATTICKLET_BAD_LISTING = 20, /* a listing out of order, or with a bad record */
+    MATTICKLET_NARROW = 21       /* an input of kind 08 with a number below 256 */
 };
 
 /* Limits of a tree and of a table. */
 enum {
-    MATTICKLET_EVENTS = 256,
+    MATTICKLET_EVENTS = 1024,
     MATTICKLET_GATES = 512,
     MATTICKLET_GATE_INPUTS = 64,
     MATTICKLET_INPUTS = 4096,          /* of all gates together */
-    MATTICKLET_TREE_BYTES = 14849,     /* the longest tree that is accepted */
-    MATTICKLET_TEXT_BYTES = 47650,     /* the longest text that a tree is exported as */
+    MATTICKLET_TREE_BYTES = 18689,     /* the longest tree that is accepted */
+    MATTICKLET_TEXT_BYTES = 64083,     /* the longest text that a tree is exported as */
+    MATTICKLET_CUT_BYTES = 2817,       /* the longest cut of a listing */
     MATTICKLET_TABLE_NUMBERS = 3000000,
     MATTICKLET_BILLION = 1000000000,   /* a chance of 1 */
-    MATTICKLET_SET_WORDS = 4,          /* event e is bit e % 64 of word e / 64 */
-    MATTICKLET_SIZES = 257,            /* counts by size: of cuts with 0, 1, 2, up to 256 members */
+    MATTICKLET_SET_WORDS = 16,         /* event e is bit e % 64 of word e / 64 */
+    MATTICKLET_SIZES = 1025,           /* counts by size: of cuts with 0, 1, 2, up to 1,024 members */
     MATTICKLET_TREES = 64              /* of a folder */
 };
 
 /* The bytes of a tree, a record after the other, low bytes first:
  *   01 c c c c   next event, its chance in billionths
  *   02 n         next gate: and of n inputs          03 n   or of n inputs          04 k n   at least k of n inputs
- *   05 e         input: event e                      06 g g input: gate g           07       end
- * Events come first, then gates, each followed by its n inputs; the last gate is the root. An input may stand twice in a gate; an at-least gate counts it
- * once. So 5 is judged after the gate's last input, and its place is the gate's record; whatever is wrong with one of those inputs comes first.
+ *   05 e         input: event e, below 256           08 e e input: event e, from 256 on
+ *   06 g g       input: gate g                       07     end
+ * Events come first, then gates, each followed by its n inputs; the last gate is the root. An event's number decides between 05 and 08: 08 with a number
+ * below 256 is refused with 21, after 3 and before 6. An input may stand twice in a gate; an at-least gate counts it once. So 5 is judged after the
+ * gate's last input, and its place is the gate's record; whatever is wrong with one of those inputs comes first.
  *
  * A tree in memory is its two counts and five arrays:
  *   chances   of the events;
  *   kinds     of the gates, 2, 3 or 4; leasts: their k (0 unless the kind is 4); sizes: their n;
- *   inputs    of all gates, one gate after the other: event e is e, gate g is 256 + g. */
+ *   inputs    of all gates, one gate after the other: event e is e, gate g is MATTICKLET_EVENTS + g. */
 
 struct matticklet_reading {
-    uint64_t number; /* 0 to 8 */
+    uint64_t number; /* 0 to 8, or 21 */
     uint64_t place;  /* offset of the record at fault; 0 where done */
     uint64_t events; /* 0 in a refusal */
     uint64_t gates;  /* 0 in a refusal */
@@ -104,20 +108,20 @@ void matticklet_write(size_t events, size_t gates, const uint32_t chances[MATTIC
  * 2 on, stands at 3 * (i - 2). A table's capacity is its length / 3. */
 
 struct matticklet_analysis {
-    uint64_t number;    /* 0 to 11 */
-    uint64_t place;     /* of 1 to 8; of 10 the number of the gate being built; else 0 */
+    uint64_t number;    /* 0 to 11, or 21 */
+    uint64_t place;     /* of 1 to 8 and 21; of 10 the number of the gate being built; else 0 */
     uint64_t nodes;     /* nodes stored; 0 in a refusal, as are those below */
     uint64_t cut_nodes;
     uint64_t root;      /* the last gate's node */
     uint64_t cut_root;  /* the node of the minimal cuts */
 };
 
-/* Analyses a tree: 1 to 8, then 9, then 10, then 11. Lengths, otherwise 9:
+/* Analyses a tree: 1 to 8 or 21 as matticklet_read gives them, then 9, then 10, then 11. Lengths, otherwise 9:
  *   nodes, cuts               a multiple of 3, at most MATTICKLET_TABLE_NUMBERS
  *   gates, added              each at least the tree's number of gates
  *   memo                      a multiple of 4, also 0
  *   heads, next, marks, own   each at least the larger capacity of the two tables, plus 2
- * 1 to 9 change nothing; 10 and 11 leave zero in all that was lent, to the last number. Done: nodes holds the diagram of all gates, cuts that
+ * 1 to 9 and 21 change nothing; 10 and 11 leave zero in all that was lent, to the last number. Done: nodes holds the diagram of all gates, cuts that
  * of the root's minimal cuts, gates the node of each gate, added how many nodes each gate added, each with zeros behind; memo and work areas
  * are zero.
  *
@@ -146,17 +150,19 @@ struct matticklet_listing {
 
 /* Lists the sets of a cut diagram of so many events, its table, its stated count of nodes, and its root: from the beginning (`after` is then not
  * looked at, but must be there), or those after the set `after`. "After the empty set" is not the beginning: that set is the last of all.
- * 12, then 13, then 14. Done: as many whole cuts as fit stand at the front of room, in order, a cut as the bytes 21 e for each member in rising
- * order and then 22; the room behind stays as it was. A refusal changes nothing. To go on, hand over a done answer's `last` as `after`.
+ * 12, then 13, then 14. Done: as many whole cuts as fit stand at the front of room, in order, a cut as its members in rising order and then 22, a member
+ * as 21 e below 256, and as 23 e e, the low byte first, from 256 on; the room behind stays as it was. A refusal changes nothing. To go on, hand over
+ * a done answer's `last` as `after`.
  * `begin` is a `bool` of C: 0 or 1, and no other value may be handed over. Each call judges all stated nodes for 12 before it lists, so lend rooms of
- * 64 KiB or more, and larger ones for larger tables; no cut has more than 513 bytes. */
+ * 64 KiB or more, and larger ones for larger tables; no cut has more than MATTICKLET_CUT_BYTES. */
 void matticklet_list(const uint32_t *cuts, size_t cuts_length, size_t events, size_t count, size_t root, bool begin,
                      const uint64_t after[MATTICKLET_SET_WORDS], uint8_t *room, size_t room_length,
                      struct matticklet_listing *answer);
 
 enum {
-    MATTICKLET_MEMBER = 0x21, /* one byte of event follows */
-    MATTICKLET_CUT_END = 0x22
+    MATTICKLET_MEMBER = 0x21,      /* one byte of event follows */
+    MATTICKLET_CUT_END = 0x22,
+    MATTICKLET_WIDE_MEMBER = 0x23  /* two bytes of event follow, the low one first */
 };
 
 struct matticklet_ends {
@@ -232,7 +238,7 @@ struct matticklet_tally {
 
 /* Counts the sets of a cut diagram by the number of their members, without listing them: 12, then 9, then 19. Lengths, otherwise 9: counts at least
  * MATTICKLET_SIZES; less, work and reached each at least the table's capacity, plus 2. Done: counts[k] is the number of sets with k members, for k
- * from 0 to 256; what lies behind these stays as it was. 19 exactly when some such number is above 2^64 - 1, whatever stands in nodes that the root
+ * from 0 to 1,024; what lies behind these stays as it was. 19 exactly when some such number is above 2^64 - 1, whatever stands in nodes that the root
  * does not reach; counts then stay as they were. less, work and reached are zero to the last number after 0 and after 19; 12 and 9 change nothing. */
 void matticklet_sizes(const uint32_t *cuts, size_t cuts_length, size_t events, size_t count, size_t root,
                       uint64_t *counts, size_t counts_length, uint64_t *less, size_t less_length,
@@ -240,18 +246,18 @@ void matticklet_sizes(const uint32_t *cuts, size_t cuts_length, size_t events, s
                       struct matticklet_tally *answer);
 
 struct matticklet_gathered {
-    uint64_t number; /* 0 to 11, or 19 */
-    uint64_t place;  /* of 1 to 8, in the bytes of the refused tree; of 10 the number of its gate; else 0 */
+    uint64_t number; /* 0 to 11, 19 or 21 */
+    uint64_t place;  /* of 1 to 8 and 21, in the bytes of the refused tree; of 10 the number of its gate; else 0 */
     uint64_t tree;   /* index of the refused tree; 0 with every other answer */
 };
 
 /* Counts the cuts of all trees of a folder by size. The trees' bytes stand one behind the other in `bytes`, tree i has lengths[i] of them. First 9: more
  * than MATTICKLET_TREES trees, lengths whose sum is not bytes_length, counts shorter than MATTICKLET_SIZES, or less, work or reached shorter than
  * the cut table's capacity, plus 2. Then tree by tree, each analysed in the same lent memory as matticklet_analyse would, only that the nodes that each
- * gate added are not told: the first refused tree refuses the whole with its own number, 1 to 11, its place and its index. 19 only after the last
+ * gate added are not told: the first refused tree refuses the whole with its own number, 1 to 11 or 21, its place and its index. 19 only after the last
  * tree, exactly when the cuts of one size are more than 2^64 - 1 in all trees together. Done: counts[k] is the number of cuts with k members of all
  * trees together, what lies behind stays as it was; no tree at all is done with zeros. Every refusal leaves counts as they were. All else that is lent
- * to be written stays as it was where the first 9, or the first tree's 1 to 9, is the answer, and is zero to the last number after every other
+ * to be written stays as it was where the first 9, or the first tree's 1 to 9 or 21, is the answer, and is zero to the last number after every other
  * answer. */
 void matticklet_folder(const uint8_t *bytes, size_t bytes_length, const size_t *lengths, size_t lengths_length,
                        uint32_t *nodes, size_t nodes_length, uint32_t *cuts, size_t cuts_length,
@@ -263,9 +269,10 @@ void matticklet_folder(const uint8_t *bytes, size_t bytes_length, const size_t *
                        struct matticklet_gathered *answer);
 
 /* Two listings compared: yesterday's and today's, each the bytes that matticklet_list wrote, one room's behind the other's. A listing is good if its
- * cuts stand in matticklet_list's order, none twice, each with its members rising and its 22 at the end; a listing of no cut is good, and so is one
- * with a cut inside another. Each of the three calls judges both listings to the last byte before it answers: 20 with the side of the bad one, and
- * with yesterday's where both are. No call needs memory or writes to a listing, and the time grows with the bytes. The two may overlap, or be one. */
+ * cuts stand in matticklet_list's order, none twice, each with its members rising and its 22 at the end; kind 23 with a number below 256, or with one that
+ * no event has, is bad. A listing of no cut is good, and so is one with a cut inside another. Each of the three calls judges both listings to the last
+ * byte before it answers: 20 with the side of the bad one, and with yesterday's where both are. No call needs memory or writes to a listing, and the time
+ * grows with the bytes. The two may overlap, or be one. */
 
 enum {
     MATTICKLET_NEITHER = 0,

@@ -30,7 +30,7 @@ static void print_cuts(const uint8_t *room, uint64_t used)
         if (room[i] == MATTICKLET_CUT_END) {
             printf("\n");
             before = "";
-        } else {
+        } else { /* no event of three needs MATTICKLET_WIDE_MEMBER */
             printf("%s%d", before, room[++i]);
             before = " ";
         }

@@ -59,8 +59,11 @@ int main(int words, char **word)
     } else {
         const uint8_t *cut = rooms[d.side == MATTICKLET_TODAY] + d.offset;
         printf(d.side == MATTICKLET_TODAY ? "new:" : "gone:");
-        for (uint64_t i = 0; cut[i] == MATTICKLET_MEMBER; i += 2)
-            printf(" %d", cut[i + 1]);
+        while (*cut != MATTICKLET_CUT_END) {
+            bool wide = *cut == MATTICKLET_WIDE_MEMBER;
+            printf(" %d", wide ? cut[1] | cut[2] << 8 : cut[1]);
+            cut += wide ? 3 : 2;
+        }
     }
     printf("\n%" PRIu64 " gone, %" PRIu64 " new, %" PRIu64 " kept\n", c.gone, c.added, c.kept);
     return 0;

@@ -36,14 +36,17 @@ static void print_name(uint32_t offset)
 static void print_cuts(const uint32_t *shown, uint64_t used)
 {
     const char *before = "";
-    for (uint64_t i = 0; i < used; i++) {
-        if (room[i] == MATTICKLET_CUT_END) {
+    for (const uint8_t *at = room; at < room + used;) {
+        if (*at == MATTICKLET_CUT_END) {
             printf("\n");
             before = "";
+            at++;
         } else {
+            bool wide = *at == MATTICKLET_WIDE_MEMBER;
             printf("%s", before);
-            print_name(shown[room[++i]]);
+            print_name(shown[wide ? at[1] | at[2] << 8 : at[1]]);
             before = " ";
+            at += wide ? 3 : 2;
         }
     }
 }

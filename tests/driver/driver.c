@@ -185,7 +185,7 @@ static void list_call(void)
     size_t events = number(), count = number(), root = number();
     bool begin = number() != 0;
     struct area *after = area(8), *room = area(1);
-    struct area *answer = answer_area(9);
+    struct area *answer = answer_area(5 + MATTICKLET_SET_WORDS);
     struct matticklet_listing *a = contents(answer);
     matticklet_list(contents(cuts), cuts->length, events, count, root, begin, contents(after), contents(room), room->length, a);
     if (spoiled == LIST && a->number == MATTICKLET_DONE && a->cuts > 3)

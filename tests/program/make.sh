@@ -6,7 +6,7 @@ cargo build --release --offline --quiet -j1 --manifest-path ../second/Cargo.toml
 second=../second/target/release/second
 rm -rf outputs
 mkdir outputs
-for name in $(sed -n 's/^\([a-z0-9_]*\):.*/\1/p' inputs) longest; do
+for name in $({ cat inputs; ./longest; } | sed -n 's/^\([a-z0-9_]*\):.*/\1/p'); do
     ./bytes "$name" | $second program - >"outputs/$name"
 done
 $second program ../../crates/counts/data/and_of_63_ors | head -n 8 >outputs/first_of_many

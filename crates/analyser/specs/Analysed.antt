@@ -1,4 +1,4 @@
--- What an analysis answers and leaves in all that was lent, for any arguments: 1 to 8, then 9, then 10, then 11, or done.
+-- What an analysis answers and leaves in all that was lent, for any arguments: 1 to 8 or 21, then 9, then 10, then 11, or done.
 -- Assumes nothing.
 use mathlib.Core.Path.{_≡_}
 use mathlib.Core.List.{List}

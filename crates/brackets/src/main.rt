@@ -123,7 +123,7 @@ fn other_diagrams() {
 fn bad_counts() {
     let one = [0u32, 1, 0];
     show(b"no event", &one, 0, 1, 2, &[5u32]);
-    show(b"257 events", &one, 257, 1, 2, &[5u32]);
+    show(b"1025 events", &one, 1025, 1, 2, &[5u32]);
     show(b"no table of threes", &[0u32, 1, 0, 0], 1, 1, 2, &[5u32]);
     show(b"count too high", &one, 1, 2, 2, &[5u32]);
     show(

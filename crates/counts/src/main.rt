@@ -153,7 +153,7 @@ fn analysed(bytes: &[u8], listed: bool) {
 
 // The tree of that file.
 fn show(name: &[u8], listed: bool) {
-    let mut bytes = [0u8; 16384];
+    let mut bytes = [0u8; paper::BYTES];
     let fd = os::open_read(name);
     let n = io::read_full(fd, &mut bytes);
     io::write_all(1, name);

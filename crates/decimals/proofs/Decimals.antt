@@ -118,7 +118,7 @@ few zero k n h = omega arith
 few (suc K) zero n h = let p = pow-suc 10 0 in let z = pow-zero 10 in one-or-more K n (omega arith) (λ t. absurd (omega arith))
 few (suc K) (suc k) n h = let p = pow-suc 10 (suc k) in one-or-more K n (omega arith) (λ t. let r = few K k (n / 10) (omega arith) in omega arith)
 
--- no number has more than 20, and a byte at most 3
+-- no number has more than 20, a byte at most 3, and two bytes at most 5
 pub decimal-long : (n : ℕ) → length (decimal n) ≤ 20
 unfolding decimal
 decimal-long n = at-most 20 n
@@ -126,3 +126,7 @@ decimal-long n = at-most 20 n
 pub byte-long : (n : ℕ) → n < 256 → length (decimal n) ≤ 3
 unfolding decimal
 byte-long n h = let t : 10 ^ 3 ≡ 1000 = refl in few 20 2 n (omega arith)
+
+pub two-long : (n : ℕ) → n < 65536 → length (decimal n) ≤ 5
+unfolding decimal
+two-long n h = let t : 10 ^ 5 ≡ 100000 = refl in few 20 4 n (omega arith)

@@ -2,7 +2,7 @@
 -- Assumes nothing.
 use mathlib.Core.Path.{_≡_, refl, sym, ap, _∙_}
 use mathlib.Core.Bool.{Bool, true, false, cond}
-use mathlib.Core.List.{List, [], _∷_}
+use mathlib.Core.List.{List, [], _∷_, _++_}
 use Prim.Native.Nat.{ℕ}
 use mir.Val.{boolByte}
 use borrow.Author.Tests.{eq-eqb, ne-eqb}
@@ -56,5 +56,5 @@ flag : (b : Bool) → boolByte b ≡ cond b 1 0
 flag true = refl
 flag false = refl
 
-pub listed : {number place count used a b c d : ℕ} (f : Bool) → number ∷ place ∷ count ∷ used ∷ boolByte f ∷ a ∷ b ∷ c ∷ d ∷ [] ≡ number ∷ place ∷ count ∷ used ∷ cond f 1 0 ∷ a ∷ b ∷ c ∷ d ∷ []
-listed f = rw (flag f) refl
+pub listed : {number place count used : ℕ} (f : Bool) {last answer : List ℕ} → answer ≡ (number ∷ place ∷ count ∷ used ∷ boolByte f ∷ []) ++ last → answer ≡ number ∷ place ∷ count ∷ used ∷ cond f 1 0 ∷ last
+listed {number} {place} {count} {used} f {last} e = e ∙ ap (λ (x : ℕ). number ∷ place ∷ count ∷ used ∷ x ∷ last) (flag f)

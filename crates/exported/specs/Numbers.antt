@@ -3,7 +3,6 @@
 use mathlib.Core.Bool.{cond}
 use mathlib.Core.List.{List, [], _∷_}
 use Prim.Native.Nat.{ℕ}
-use lib.ListN.{getD}
 use Rattle.rules.specs.Answers.{verdict}
 use Rattle.writing.specs.Writes.{Wrote}
 use Rattle.records.specs.declared.Reading.{Reading}
@@ -23,8 +22,9 @@ ofWriting w = verdict (w .answer) .number ∷ verdict (w .answer) .place ∷ w .
 abbrev pub ofAnalysis : Analysis → List ℕ
 ofAnalysis a = a .number ∷ a .place ∷ a .nodes ∷ a .«cut_nodes» ∷ a .root ∷ a .«cut_root» ∷ []
 
+-- five numbers, and the words of the last set behind them
 abbrev pub ofListing : Listed → List ℕ
-ofListing l = l .number ∷ l .place ∷ l .count ∷ l .used ∷ cond (l .finished) 1 0 ∷ getD (l .last) 0 0 ∷ getD (l .last) 1 0 ∷ getD (l .last) 2 0 ∷ getD (l .last) 3 0 ∷ []
+ofListing l = l .number ∷ l .place ∷ l .count ∷ l .used ∷ cond (l .finished) 1 0 ∷ l .last
 
 abbrev pub ofBracket : Ends → List ℕ
 ofBracket e = e .number ∷ e .place ∷ e .low ∷ e .high ∷ []

@@ -1,4 +1,5 @@
 // The product's calls for other languages: numbers, slices (a pointer, then a length) and arrays (a pointer), the answer in a lent array.
+mod ending; // an answer whose numbers end in the words of a set
 mod listings; // two listings compared
 
 use arrays::chances_of;
@@ -175,7 +176,7 @@ pub extern "C" fn matticklet_analyse(
 }
 
 // Lists the cuts of a lent cut diagram, from the beginning or after the set `s`. The answer: number, place, cuts, bytes used, finished, and
-// the last set's four words.
+// the last set's words.
 #[no_mangle]
 pub extern "C" fn matticklet_list(
     cuts: &[u32],
@@ -185,23 +186,20 @@ pub extern "C" fn matticklet_list(
     begin: bool,
     s: &[u64; sets::WORDS],
     room: &mut [u8],
-    answer: &mut [u64; 9],
+    answer: &mut [u64; ending::LISTING],
 )
     ensures { λ _. ⌜ ((r : Listed) × (Answered events (now (cuts .entry)) count root begin (now (s .entry)) (now (room .entry)) (now (room .exit)) (r .number) (r .place) (r .count) (r .used) (r .last) (r .finished) × (now (answer .exit) ≡ ofListing r))) ⌝ }
 {
     let r = analyser::list(cuts, events, count, root, begin, *s, room);
     let last = r.last;
-    *answer = [
+    let head = [
         r.number as u64,
         r.place as u64,
         r.count as u64,
         r.used as u64,
         r.finished as u64,
-        last[0],
-        last[1],
-        last[2],
-        last[3],
     ];
+    *answer = ending::with_set(head, last);
 }
 
 // Encloses the chance of the root of a lent diagram. The answer: number, place, low, high.

@@ -7,6 +7,7 @@ use native.Mathlib.Numerals.{add-one}
 use native.Mathlib.Omega.{arith}
 use lib.ListN.{length, getD, take, drop, drop-of-length-le}
 use lib.Seq.{slice-cons, length-take-le}
+use Rattle.paper.specs.Limits.{limits}
 use Rattle.paper.specs.Grammar.{blank}
 use Rattle.paper.specs.Texts.{lineFeed}
 use Rattle.paper.specs.Flat.{gatesOf}
@@ -51,14 +52,14 @@ module _ (t : Tree) (e : ℕ) (l : t .«event_count» ≤ length (t .events)) wh
 
 -- the lines of i chances are laid
 pub record Chanced (room : List ℕ) (at : ℕ) (t : Tree) (room′ : List ℕ) (end i : ℕ) : Type 0 where
-  pub few : t .«event_count» ≤ 256
-  pub long : length (t .events) ≡ 256
+  pub few : t .«event_count» ≤ limits .events
+  pub long : length (t .events) ≡ limits .events
   pub start : at ≤ 2000000
   pub low : i ≤ t .«event_count»
   pub near : end ≤ at + 50 * i
   pub part : Part (chancesOf t) room at (linesFrom t i) room′ end
 
-pub chances-start : (room : List ℕ) (at : ℕ) (t : Tree) → (t .«event_count» ≤ 256) × (at ≤ 2000000) → length (t .events) ≡ 256 → Chanced room at t room at 0
+pub chances-start : (room : List ℕ) (at : ℕ) (t : Tree) → (t .«event_count» ≤ limits .events) × (at ≤ 2000000) → length (t .events) ≡ limits .events → Chanced room at t room at 0
 unfolding chancesOf
 chances-start room at t (few, start) long =
     record { few = few; long = long; start = start; low = omega arith; near = omega arith; part = part-none (chancesOf t) room at }

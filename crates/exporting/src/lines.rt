@@ -9,6 +9,7 @@ use records::Tree;
 ghost use mathlib.Core.List.{_++_};
 ghost use Prim.Native.Nat.{_+_, _≤_};
 ghost use lib.ListN.{take};
+ghost use Rattle.paper.specs.Limits.{limits};
 ghost use Rattle.paper.specs.Texts.{lineFeed};
 ghost use Rattle.paper.specs.Flat.{gatesOf};
 ghost use Rattle.paper.specs.Spelling.{chanceLine};
@@ -99,7 +100,7 @@ fn lay_chance(room: &mut [u8], at: usize, e: usize, chance: u32) -> usize
 
 // Lays the lines of all chances.
 fn lay_chances(room: &mut [u8], at: usize, tree: Tree) -> usize
-    requires { ⌜ (tree .«event_count» ≤ 256) × (at ≤ 2000000) ⌝ }
+    requires { ⌜ (tree .«event_count» ≤ limits .events) × (at ≤ 2000000) ⌝ }
     ensures { λ r. ⌜ Laid (now (room .entry)) at (chancesOf tree) (now (room .exit)) r ⌝ }
 {
     let mut end = at;

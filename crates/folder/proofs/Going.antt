@@ -116,7 +116,7 @@ module _ {bytes lengths : List ℕ} {l k : Lends} {i start : ℕ} {L : List ℕ}
     inside = let e = parts-count bytes lengths in omega arith
 
     module _ {m′ : Memory} {x : Analysis} (y : Analysed (take (start + getD lengths i 0 - start) (drop start bytes)) (k .memory) m′ x) where
-      -- it is refused, by 1 to 9 with nothing changed
+      -- it is refused, with nothing changed where nothing was written
       pub going-refused : {a : Gathered} → (x .number ≡ 0 → ⊥) → Answers a (x .number) (x .place) i → Tried bytes lengths l (lends m′ (k .less) (k .work) (k .reached)) L a
       going-refused n a =
           let (r, s) = analysed-refused y n in

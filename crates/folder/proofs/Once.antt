@@ -86,7 +86,7 @@ module _ {bytes lengths : List ℕ} {l l′ : Lends} {C C′ : List ℕ} {a : Ga
   -- 19 only where every tree passes and a total is too large
   pub nineteen : Gathers bytes lengths l C l′ C′ a → a .number ≡ 19 → (ts : List Tree) × AllPass (l .memory) (parts bytes lengths) ts × Above ts
   nineteen (Gathers.misfit n b e c) q = absurd (let k = b .number-is in omega arith)
-  nineteen (Gathers.refused i v f r b e c) q = absurd (let (low, high) = refusal-number (r .refused) in let k = b .number-is in omega arith)
+  nineteen (Gathers.refused i v f r b e c) q = absurd (refusal-number (r .refused) .1 (sym (b .number-is) ∙ q))
   nineteen (Gathers.too-many ts f p o b e c) q = (ts, p, o)
   nineteen (Gathers.done ts f p o b e c) q = absurd (let k = b .number-is in omega arith)
 

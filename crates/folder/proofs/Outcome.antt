@@ -2,14 +2,16 @@
 -- Assumes nothing.
 use mathlib.Core.Path.{_≡_, refl, sym, ap, _∙_, subst}
 use mathlib.Core.List.{List}
-use Prim.Native.Nat.{ℕ, _≤_}
+use Prim.Native.Nat.{ℕ}
 use native.Mathlib.Decide.{ℕ-discrete}
 use native.Mathlib.Omega.{arith}
 use lib.ListN.{length, replicate}
 use Rattle.paper.specs.Limits.{limits}
+use Rattle.paper.specs.Answers.{Unwritten}
 use Rattle.memory.specs.Memory.{Memory, AllZero}
 use Rattle.memory.proofs.Before.{all-zero-from, zero-from}
 use Rattle.totals.specs.Adding.{Ends}
+use Rattle.totals.proofs.Unwritten.{unwritten-some, unwritten-few}
 use Rattle.folder.specs.Contract.{lent, Lends, lends, Right, Answers, Cleared, AtOnce, Leaves, Gathers}
 use Rattle.folder.specs.Steps.{Tried}
 use Rattle.folder.specs.declared.Gathered.{Gathered}
@@ -38,18 +40,21 @@ own-zero z e = record { nodes = z .nodes; cuts = z .cuts; gates = z .gates; adde
 -- ---- the answer
 
 module _ {bytes lengths : List ℕ} {l k : Lends} {C L : List ℕ} {a : Gathered} (f : Right bytes lengths l C) (t : Tried bytes lengths l k L a) where
-  -- the first tree's own 1 to 9: nothing was changed
-  pub at-once : own l ≡ l → (a .tree ≡ 0) × (1 ≤ a .number) × (a .number ≤ 9) → Gathers bytes lengths l C (own k) C a
-  at-once o (z, s, n) = go t
+  -- the first tree's own, before anything was written: nothing was changed
+  pub at-once : own l ≡ l → AtOnce (a .tree) (a .number) → Gathers bytes lengths l C (own k) C a
+  at-once o (z, n) = go t
     where
       go : Tried bytes lengths l k L a → Gathers bytes lengths l C (own k) C a
       go (Tried.refused i v r e u) =
-          let q : AtOnce i (v .number) = (sym (e .tree-is) ∙ z, subst (λ x. x ≤ 9) (e .number-is) n) in
+          let q : AtOnce i (v .number) = (sym (e .tree-is) ∙ z, subst (λ x. Unwritten x) (e .number-is) n) in
           Gathers.refused i v f r e (Leaves.unchanged q (ap own (u q) ∙ o)) refl
-      go (Tried.passed ts due p b e) = absurd (let w = e .number-is in let (q, o) = b .over (λ x. omega (arith, x, w, s)) in omega (arith, q, w, n))
+      go (Tried.passed ts due p b e) =
+          let (q, o) = b .over (λ x. unwritten-some (a .number) n (e .number-is ∙ x)) in
+          let is : a .number ≡ 19 = e .number-is ∙ q in
+          absurd (omega (arith, is, unwritten-few (a .number) n (omega (arith, is))))
 
   -- otherwise all that was lent is zero, and the counts are written or stay
-  pub ended : {l′ : Lends} {C′ : List ℕ} → Kept l k → Cleared k l′ → ((a .tree ≡ 0) × (1 ≤ a .number) × (a .number ≤ 9) → ⊥) → Ends (a .number) C L C′ → Gathers bytes lengths l C l′ C′ a
+  pub ended : {l′ : Lends} {C′ : List ℕ} → Kept l k → Cleared k l′ → (AtOnce (a .tree) (a .number) → ⊥) → Ends (a .number) C L C′ → Gathers bytes lengths l C l′ C′ a
   ended {l′} {C′} h z n w = go t
     where
       c : Cleared l l′
@@ -59,7 +64,7 @@ module _ {bytes lengths : List ℕ} {l k : Lends} {C L : List ℕ} {a : Gathered
       go (Tried.refused i v r e u) =
           let (low, high) = refusal-number (r .refused) in
           let q = e .number-is in
-          Gathers.refused i v f r e (Leaves.zeroed (λ (x, y). n (e .tree-is ∙ x, omega (arith, q, low), omega (arith, q, y))) c) (w .refused (λ x. omega (arith, x, q, low)))
+          Gathers.refused i v f r e (Leaves.zeroed (λ (x, y). n (e .tree-is ∙ x, subst (λ k. Unwritten k) (sym q) y)) c) (w .refused (λ x. omega (arith, x, q, low)))
       go (Tried.passed ts due p s e) = told (ℕ-discrete due 0)
         where
           told : Dec (due ≡ 0) → Gathers bytes lengths l C l′ C′ a

@@ -1,7 +1,7 @@
 -- A tree passes or is refused, in one way, and of the lent memory only the lengths matter; so a folder has one list of trees that pass, or one first refused tree.
 -- Assumes nothing.
 use mathlib.Core.Path.{_≡_, refl, sym, ap, ap₂, _∙_, subst}
-use mathlib.Core.Logic.{_⊎_, inl, inr}
+use mathlib.Core.Logic.{_≢_, _⊎_, inl, inr}
 use mathlib.Core.List.{List, [], _∷_, _++_}
 use Prim.Native.Nat.{ℕ, zero, suc, _+_, _≤_, _<_}
 use native.Mathlib.Omega.{arith}
@@ -9,7 +9,7 @@ use lib.ListN.{length, getD, take}
 use lib.Seq.{getD-take, length-take-le}
 use Rattle.paper.specs.Limits.{limits}
 use Rattle.paper.specs.Trees.{Tree}
-use Rattle.paper.specs.Answers.{Verdict, NodesFull, FilledAt, CutsFull}
+use Rattle.paper.specs.Answers.{Verdict, OfReading, Unwritten, NodesFull, FilledAt, CutsFull}
 use Rattle.algebra.proofs.Prefixes.{filled-full, filled-once}
 use Rattle.rules.specs.Answers.{verdict}
 use Rattle.records.specs.Judge.{Book, accept, outcome}
@@ -24,6 +24,7 @@ use Rattle.promises.proofs.Refusals.{refusal-range}
 use Rattle.promises.proofs.Coincide.{same-answer, same-book, not-both}
 use Rattle.promises.proofs.Which.{from-done}
 use Rattle.store.proofs.Denotes.{below-or-not}
+use Rattle.totals.proofs.Unwritten.{unwritten-few}
 use Rattle.folder.specs.Passing.{Passes, Refuses, AllPass, FirstRefused}
 
 -- ---- the lengths alone
@@ -49,11 +50,11 @@ module _ {m k : Memory} (s : SameLengths m k) where
 -- ---- what an analysis answers is what the tree is due
 
 module _ {bytes : List ℕ} {m m′ : Memory} {a : Analysis} where
-  pub analysed-refused : Analysed bytes m m′ a → (a .number ≡ 0 → ⊥) → Refuses m bytes (at (a .number) (a .place)) × (a .number ≤ 9 → m′ ≡ m)
+  pub analysed-refused : Analysed bytes m m′ a → (a .number ≡ 0 → ⊥) → Refuses m bytes (at (a .number) (a .place)) × (Unwritten (a .number) → m′ ≡ m)
   analysed-refused (Analysed.bad-tree w p r k) z = (Refuses.bad-tree w p (ap₂ at (r .number) (r .place)), λ _. k)
   analysed-refused (Analysed.bad-length b p n r k) z = (Refuses.bad-length b p n (ap₂ at (r .number) (r .place)), λ _. k)
-  analysed-refused (Analysed.nodes-full b g p n f r k) z = (Refuses.nodes-full b g p n f (ap₂ at (r .number) (r .place)), λ h. absurd (let e = r .number in omega arith))
-  analysed-refused (Analysed.cuts-full b p n f g r k) z = (Refuses.cuts-full b p n f g (ap₂ at (r .number) (r .place)), λ h. absurd (let e = r .number in omega arith))
+  analysed-refused (Analysed.nodes-full b g p n f r k) z = (Refuses.nodes-full b g p n f (ap₂ at (r .number) (r .place)), λ h. absurd (let e = r .number in omega (arith, e, unwritten-few (a .number) h (omega (arith, e)))))
+  analysed-refused (Analysed.cuts-full b p n f g r k) z = (Refuses.cuts-full b p n f g (ap₂ at (r .number) (r .place)), λ h. absurd (let e = r .number in omega (arith, e, unwritten-few (a .number) h (omega (arith, e)))))
   analysed-refused (Analysed.done b p n f g r) z = absurd (z (r .number))
 
   pub analysed-passed : Analysed bytes m m′ a → a .number ≡ 0 → (t : Tree) × Passes m bytes t × Done t m m′ a
@@ -87,11 +88,15 @@ module _ {m : Memory} {bytes : List ℕ} where
   not-both-ways p (Refuses.nodes-full b g e l f q) = p .nodes-fit (subst (λ t. NodesFull t (capacity (m .nodes))) (sym (tree-of p e)) (filled-full (treeOf b) (capacity (m .nodes)) f))
   not-both-ways p (Refuses.cuts-full b e l f g q) = p .cuts-fit (subst (λ t. CutsFull t (capacity (m .cuts))) (sym (tree-of p e)) g)
 
-  pub refusal-number : {v : Verdict} → Refuses m bytes v → (1 ≤ v .number) × (v .number ≤ 11)
-  refusal-number (Refuses.bad-tree w e q) = let (l, h) = refusal-range bytes w e in let k = ap (λ x. x .number) q in (omega arith, omega arith)
-  refusal-number (Refuses.bad-length b e n q) = let k = ap (λ x. x .number) q in (omega arith, omega arith)
-  refusal-number (Refuses.nodes-full b g e l f q) = let k = ap (λ x. x .number) q in (omega arith, omega arith)
-  refusal-number (Refuses.cuts-full b e l f g q) = let k = ap (λ x. x .number) q in (omega arith, omega arith)
+  pub refusal-number : {v : Verdict} → Refuses m bytes v → (1 ≤ v .number) × (v .number ≢ 19)
+  refusal-number {v} (Refuses.bad-tree w e q) = go (refusal-range bytes w e)
+    where
+      go : OfReading (verdict w .number) → (1 ≤ v .number) × (v .number ≢ 19)
+      go (inl (l, h)) = let k = ap (λ x. x .number) q in (omega arith, λ z. omega arith)
+      go (inr h) = let k = ap (λ x. x .number) q in (omega arith, λ z. omega arith)
+  refusal-number (Refuses.bad-length b e n q) = let k = ap (λ x. x .number) q in (omega arith, λ z. omega arith)
+  refusal-number (Refuses.nodes-full b g e l f q) = let k = ap (λ x. x .number) q in (omega arith, λ z. omega arith)
+  refusal-number (Refuses.cuts-full b e l f g q) = let k = ap (λ x. x .number) q in (omega arith, λ z. omega arith)
 
   pub same-refusal : {v w : Verdict} → Refuses m bytes v → Refuses m bytes w → v ≡ w
   same-refusal (Refuses.bad-tree w p e) (Refuses.bad-tree v q d) = e ∙ ap verdict (same-answer bytes q p) ∙ sym d

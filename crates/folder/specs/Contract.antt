@@ -2,11 +2,11 @@
 -- Assumes nothing.
 use mathlib.Core.Path.{_≡_}
 use mathlib.Core.List.{List}
-use Prim.Native.Nat.{ℕ, _≤_}
+use Prim.Native.Nat.{ℕ}
 use lib.ListN.{replicate}
 use Rattle.paper.specs.Limits.{limits}
 use Rattle.paper.specs.Trees.{Tree}
-use Rattle.paper.specs.Answers.{Verdict}
+use Rattle.paper.specs.Answers.{Verdict, Unwritten}
 use Rattle.memory.specs.Memory.{Memory, memory, Zero, AllZero}
 use Rattle.totals.specs.Fitting.{Fitting}
 use Rattle.folder.specs.Parts.{parts}
@@ -45,11 +45,11 @@ pub record Cleared (l l′ : Lends) : Type 0 where
   pub work : Zero (l .work) (l′ .work)
   pub reached : Zero (l .reached) (l′ .reached)
 
--- the first tree's own 1 to 9
+-- the first tree's own, before anything was written: 1 to 8, 21 or 9
 abbrev pub AtOnce : ℕ → ℕ → Type 0
-AtOnce i number = (i ≡ 0) × (number ≤ 9)
+AtOnce i number = (i ≡ 0) × Unwritten number
 
--- what a refusal by the tree of index i leaves: all as it was if it is the first tree's 1 to 9, and otherwise zero
+-- what a refusal by the tree of index i leaves: all as it was if nothing was written before it, and otherwise zero
 pub data Leaves (i number : ℕ) (l l′ : Lends) : Type 0 where
   unchanged : AtOnce i number → l′ ≡ l → Leaves i number l l′
   zeroed : (AtOnce i number → ⊥) → Cleared l l′ → Leaves i number l l′

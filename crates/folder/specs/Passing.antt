@@ -23,7 +23,7 @@ pub record Passes (m : Memory) (bytes : List ℕ) (t : Tree) : Type 0 where
   pub nodes-fit : NodesFull t (capacity (m .nodes)) → ⊥
   pub cuts-fit : CutsFull t (capacity (m .cuts)) → ⊥
 
--- the tree is refused with this number and place: 1 to 8, then 9, then 10, then 11
+-- the tree is refused with this number and place: 1 to 8 or 21, then 9, then 10, then 11
 pub data Refuses (m : Memory) (bytes : List ℕ) (v : Verdict) : Type 0 where
   bad-tree : (w : Answer) → outcome limits bytes ≡ refuse w → v ≡ verdict w → Refuses m bytes v
   bad-length : (b : Book) → outcome limits bytes ≡ accept b → (Lengths (length (treeOf b .gates)) m → ⊥) → v ≡ at 9 0 → Refuses m bytes v

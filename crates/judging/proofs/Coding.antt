@@ -13,11 +13,11 @@ use Rattle.rules.specs.Choice.{if_then_else_}
 use Rattle.rules.specs.Format.{lengthOf, bodyOf, recordOf, widthOf, encode}
 use Rattle.judging.specs.Inner.{Own}
 use Rattle.rules.specs.declared.format.Record.{Record}
-use Rattle.rules.specs.declared.format.Record.the-variants.{Missing, Unknown, Short, Event, Gate, EventInput, GateInput, End}
+use Rattle.rules.specs.declared.format.Record.the-variants.{Missing, Unknown, Short, Event, Gate, EventInput, GateInput, WideInput, End}
 use Rattle.rules.proofs.Cases.{is-unknown, is-whole}
 
 -- the record of kind k, which is known and whose bytes are there
-whole : (b : List ℕ) (k : ℕ) → 1 ≤ lengthOf k → lengthOf k ≤ length (k ∷ b) → recordOf (k ∷ b) ≡ bodyOf k (k ∷ b)
+whole : (b : List ℕ) (k : ℕ) → 1 ≤ lengthOf k → lengthOf k ≤ length (k ∷ b) → recordOf true (k ∷ b) ≡ bodyOf k (k ∷ b)
 whole b k some h = sym (is-whole (k ∷ b) k refl (λ z. omega arith) (λ z. omega arith) h)
 
 pub own-unknown : Own Unknown
@@ -55,6 +55,12 @@ own-gate-input g rest =
     let e : g % 256 + 256 * (g / 256) ≡ g = omega arith in
     whole (g % 256 ∷ g / 256 ∷ rest) 6 (omega arith) (omega arith) ∙ ap GateInput e
 
+pub own-wide-input : (e : ℕ) → Own (WideInput e)
+unfolding bodyOf
+own-wide-input e rest =
+    let q : e % 256 + 256 * (e / 256) ≡ e = omega arith in
+    whole (e % 256 ∷ e / 256 ∷ rest) 8 (omega arith) (omega arith) ∙ ap WideInput q
+
 pub encode-width : (r : Record) → length (encode r) ≡ widthOf r
 encode-width Missing = refl
 encode-width Short = refl
@@ -67,6 +73,7 @@ encode-width (Gate kind k n) = go (eqb kind 4)
     go false = refl
 encode-width (EventInput e) = refl
 encode-width (GateInput g) = refl
+encode-width (WideInput e) = refl
 encode-width End = refl
 
 -- behind a record

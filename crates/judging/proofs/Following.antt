@@ -1,6 +1,7 @@
 -- The writing of a tree, followed record by record along the tree's bytes.
 -- Assumes nothing.
 use mathlib.Core.Path.{_≡_, refl, sym, ap, _∙_}
+use mathlib.Core.Bool.{true}
 use mathlib.Core.List.{List, [], _∷_, _++_}
 use Prim.Native.Nat.{ℕ, zero, _+_, _-_, _*_, _≤_, _<_}
 use native.Mathlib.Omega.{arith}
@@ -14,7 +15,7 @@ use Rattle.rules.specs.States.{begun, pastEvent, pastGate, pastInput}
 use Rattle.judging.specs.Bytes.{inputBytes, gateBytes, eventBytes, bytesOf, chanceAt, nextOf}
 use Rattle.judging.specs.Inner.{Own, Within}
 use Rattle.rules.specs.declared.format.Record.{Record}
-use Rattle.rules.specs.declared.format.Record.the-variants.{Missing, Unknown, Short, Event, Gate, EventInput, GateInput, End}
+use Rattle.rules.specs.declared.format.Record.the-variants.{Missing, Unknown, Short, Event, Gate, EventInput, GateInput, WideInput, End}
 use Rattle.rules.specs.declared.judge.State.{State}
 use Rattle.records.specs.declared.Tree.{Tree}
 use Rattle.rules.proofs.Cases.{if-elim, ≤-or, gate-small}
@@ -60,7 +61,7 @@ module _ {t : Tree} {bytes : List ℕ} {s : State} (f : Following t bytes s) whe
     pub starts-with : (xs : List ℕ) × (drop (s .at) bytes ≡ encode r ++ xs)
     starts-with = rw e starts
 
-    pub read-back : Own r → recordOf (drop (s .at) bytes) ≡ r
+    pub read-back : Own r → recordOf true (drop (s .at) bytes) ≡ r
     read-back own = let (xs, q) = starts-with in rw q (own xs)
 
     pub room-for : s .at ≤ length bytes → s .at + widthOf r ≤ length bytes
@@ -115,7 +116,7 @@ module _ {t : Tree} {bytes : List ℕ} {s : State} (f : Following t bytes s) whe
         → Following t bytes (pastInput s next)
     follow-input on =
         let (h, there) = at-input on in
-        let small : widthOf r ≤ 3 = input-small r (on .input) .1 in
+        let small : widthOf r ≤ 3 = input-small (s .events) r (on .input) .1 in
         record {
           rest = rw (on .place) (cut bytes (s .at) r _ (f .rest ∙ rest-input t _ _ _ _ h (on .some) ∙ rw there));
           early = λ d. absurd (omega arith);
@@ -135,4 +136,5 @@ module _ {t : Tree} {bytes : List ℕ} {s : State} (f : Following t bytes s) whe
         go (Gate kind k n) o h = refl
         go (EventInput i) o h = refl
         go (GateInput g) o h = refl
+        go (WideInput i) o h = refl
         go End o h = rw (h refl)

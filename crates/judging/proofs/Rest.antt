@@ -8,12 +8,13 @@ use lib.ListN.{getD}
 use lib.Dec.{ltb, eqb}
 use borrow.Author.Tests.{ltb-true, ltb-false, lt-ltb, le-ltb, eqb-true}
 use Rattle.rules.specs.Choice.{if_then_else_}
-use Rattle.paper.specs.Limits.{limits}
+use Rattle.paper.specs.Limits.{limits, wideFrom}
+use Rattle.paper.specs.Flat.{gatesFrom}
 use Rattle.rules.specs.Format.{encode}
 use Rattle.judging.specs.Bytes.{eventAt, gateAt, inputAt, chanceAt, laterOf, nextOf, inputBytes, gateBytes, eventBytes, toldLeast}
 use Rattle.judging.specs.Inner.{Within}
 use Rattle.rules.specs.declared.format.Record.{Record}
-use Rattle.rules.specs.declared.format.Record.the-variants.{Missing, Unknown, Short, Event, Gate, EventInput, GateInput, End}
+use Rattle.rules.specs.declared.format.Record.the-variants.{Missing, Unknown, Short, Event, Gate, EventInput, GateInput, WideInput, End}
 use Rattle.rules.specs.declared.judge.State.{State}
 use Rattle.records.specs.declared.Tree.{Tree}
 use Rattle.rules.proofs.Cases.{if-elim, either}
@@ -88,6 +89,7 @@ tag Unknown = 2
 tag (Gate kind k n) = 2
 tag (EventInput e) = 3
 tag (GateInput g) = 3
+tag (WideInput e) = 3
 tag End = 4
 
 module _ (t : Tree) where
@@ -95,7 +97,10 @@ module _ (t : Tree) where
   tag-event i = if-elim (λ (r : Record). tag r ≡ 1) (ltb i (limits .events)) (λ _. refl) (λ _. refl)
 
   tag-input : (i : ℕ) → tag (inputRecordAt t i) ≡ 3
-  tag-input i = if-elim (λ (r : Record). tag r ≡ 3) (ltb (getD (t .inputs) i 0) 256) (λ _. refl) (λ _. refl)
+  tag-input i =
+      let P : Record → Type 0 = λ r. tag r ≡ 3 in
+      let code : ℕ = getD (t .inputs) i 0 in
+      if-elim P (ltb code wideFrom) (λ _. refl) (λ _. if-elim P (ltb code gatesFrom) (λ _. refl) (λ _. refl))
 
   tag-gate : (g : ℕ) → tag (gateRecordAt t g) ≡ 2
   tag-gate g =

@@ -3,19 +3,23 @@ use Prim.Native.Nat.{ℕ, zero, suc, _+_, _-_}
 use mathlib.Core.List.{List, _++_}
 use lib.ListN.{getD}
 use lib.Dec.{ltb, eqb}
-use Rattle.paper.specs.Limits.{limits}
+use Rattle.paper.specs.Limits.{limits, wideFrom}
 use Rattle.paper.specs.Lists.{sum}
 use Rattle.rules.specs.Choice.{if_then_else_}
 use Rattle.rules.specs.Format.{encode}
 use Rattle.paper.specs.Flat.{gatesFrom}
 use Rattle.records.specs.Memory.{pad, tabulate, noEvent}
 use Rattle.rules.specs.declared.format.Record.{Record}
-use Rattle.rules.specs.declared.format.Record.the-variants.{Unknown, Event, Gate, EventInput, GateInput, End}
+use Rattle.rules.specs.declared.format.Record.the-variants.{Unknown, Event, Gate, EventInput, GateInput, WideInput, End}
 use Rattle.rules.specs.declared.judge.State.{State}
 use Rattle.records.specs.declared.Tree.{Tree}
 
+-- an event's number takes two bytes from `wideFrom` on, and only there
 abbrev pub inputRecord : ℕ → Record
-inputRecord code = if ltb code gatesFrom then EventInput code else GateInput (code - gatesFrom)
+inputRecord code =
+    if ltb code wideFrom then EventInput code else
+    if ltb code gatesFrom then WideInput code else
+    GateInput (code - gatesFrom)
 
 abbrev pub gateRecord : ℕ → ℕ → ℕ → Record
 gateRecord kind k n =

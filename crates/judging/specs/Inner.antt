@@ -1,6 +1,7 @@
 -- What the functions inside ask of their callers and tell them.
 use Prim.Native.Nat.{ℕ, _+_, _<_}
 use mathlib.Core.Path.{_≡_}
+use mathlib.Core.Bool.{true}
 use mathlib.Core.List.{List, _++_}
 use lib.ListN.{length}
 use Rattle.paper.specs.Limits.{limits}
@@ -21,7 +22,7 @@ pub record Within (n r : ℕ) : Type 0 where
 
 -- a record that is read as itself
 abbrev pub Own : Record → Type 0
-Own r = (rest : List ℕ) → recordOf (encode r ++ rest) ≡ r
+Own r = (rest : List ℕ) → recordOf true (encode r ++ rest) ≡ r
 
 -- the bytes of t are accepted
 abbrev pub Accepted : Tree → Type 0

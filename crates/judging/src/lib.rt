@@ -3,6 +3,7 @@ use paper::EVENTS;
 use paper::GATES;
 use paper::GATES_FROM;
 use paper::IN_ALL;
+use paper::WIDE_FROM;
 use records::Tree;
 use records::thresholds::starved;
 use records::uses::Found;
@@ -35,12 +36,15 @@ pub fn unwritten(answer: Answer) -> Written
     Written { answer, bytes: 0 }
 }
 
-// The record of an input.
+// The record of an input: an event's by its number, which is all that memory has.
 pub fn input_record(code: u16) -> Record
     ensures { λ r. ⌜ (r ≡ inputRecord code) × Own r ⌝ }
 {
-    if code < GATES_FROM {
+    if code < WIDE_FROM {
         return Record::EventInput(code as u8);
+    }
+    if code < GATES_FROM {
+        return Record::WideInput(code);
     }
     Record::GateInput(code - GATES_FROM)
 }

@@ -26,7 +26,7 @@ pub record Ready (ws : List ℕ) (found : Bool) (kept low high : ℕ) (ahead lin
 -- the words of a path to a cut
 module _ {n : ℕ} {T : List ℕ} {c : ℕ} {P : List ℕ} {d at : ℕ} (o : Open n T c P d at) {ws : List ℕ} (k : Carries T P d ws) where
   -- the first
-  pub ready-start : {found : Bool} {kept low high : ℕ} {ahead line : List ℕ} → Starts n (setOf ws) kept low high → length ahead ≡ words → getD ahead 0 0 ≡ 0 → 2 * (words * 64) ≤ length line → Ready ws found kept low high ahead line
+  pub ready-start : {found : Bool} {kept low high : ℕ} {ahead line : List ℕ} → Starts n (setOf ws) kept low high → length ahead ≡ words → getD ahead 0 0 ≡ 0 → 3 * (words * 64) ≤ length line → Ready ws found kept low high ahead line
   ready-start {low = low} {ahead = ahead} {line} s l z m =
       let wide = wide-enough o ws (k .long) in
       let i = s .inside in

@@ -1,33 +1,42 @@
--- The bytes of a path's cut, placed in a room and read back.
+-- The bytes of a path's cut, placed in a room.
 -- Assumes nothing.
 use mathlib.Core.Path.{_≡_, refl, sym, ap, ap₂, _∙_, subst}
-use mathlib.Core.Bool.{true}
+use mathlib.Core.Bool.{Bool, true, false, cond}
 use mathlib.Core.List.{List, [], _∷_, _++_, append-assoc, append-nil}
-use Prim.Native.Nat.{ℕ, suc, _+_, _-_, _*_, _≤_, _<_}
+use Prim.Native.Nat.{ℕ, zero, suc, _+_, _-_, _≤_}
 use native.Mathlib.Nat.{le-of-eq}
 use native.Mathlib.Omega.{arith}
-use lib.ListN.{length, getD, take, drop, replicate, length-append, length-drop, length-take, drop-of-length-le}
-use lib.Seq.{take-all, drop-drop, getD-append-add}
+use lib.ListN.{length, take, drop, length-drop, length-take, drop-of-length-le}
+use lib.Seq.{take-all, drop-drop}
 use borrow.Rule.Slice.PartMut.{putMid, midOf, postOf, put-same}
-use Rattle.paper.specs.Sets.{Set, put, ofEvents}
-use Rattle.paper.specs.Listing.{memberBytes, cutBytes, setBytes}
-use Rattle.sets.specs.Words.{words, setOf, room}
-use Rattle.sets.proofs.Words.{empty-none}
+use Rattle.paper.specs.Limits.{limits}
+use Rattle.paper.specs.Lists.{keep, upTo}
+use Rattle.paper.specs.Sets.{Set}
+use Rattle.paper.specs.Listing.{cutBytes, setBytes}
+use Rattle.sets.specs.Words.{setOf, room}
 use Rattle.sets.specs.Bytes.{Laid}
-use Rattle.sets.proofs.Count.{cut-length}
 use Rattle.walk.specs.Paths.{eventsOf, along, Open, Carries}
-use Rattle.walk.proofs.Members.{path-members, events-length}
-use Rattle.listing.specs.Bytes.{Placed, picked}
+use Rattle.walk.proofs.Members.{path-members}
+use Rattle.listing.specs.Bytes.{Placed, Below}
 
 -- ---- the bytes of a path's set
+
+keep-below : (S : Set) (k m n : ℕ) → m + k ≤ n → Below n (keep S (upTo k m))
+keep-below S zero m n h = tt
+keep-below S (suc k) m n h = go (S m) (keep S (upTo k (suc m))) (keep-below S k (suc m) n (omega arith))
+  where
+    go : (b : Bool) (l : List ℕ) → Below n l → Below n (cond b (m ∷ l) l)
+    go true l w = (omega arith, w)
+    go false l w = w
 
 module _ {n : ℕ} {T : List ℕ} {c : ℕ} {P : List ℕ} {d at : ℕ} (o : Open n T c P d at) where
   -- they are those of the path's events, whatever the width
   pub path-bytes : (k : ℕ) → n ≤ k → setBytes k (along T (take d P)) ≡ cutBytes (eventsOf T (take d P))
   path-bytes k h = ap cutBytes (path-members o k h)
 
-  pub path-size : length (setBytes n (along T (take d P))) ≡ 2 * d + 1
-  path-size = ap length (path-bytes n (omega arith)) ∙ cut-length (eventsOf T (take d P)) ∙ ap (λ (x : ℕ). 2 * x + 1) (events-length o)
+  -- and these are among the events that there may be
+  pub path-below : Below (limits .events) (eventsOf T (take d P))
+  path-below = let f = o .lent .few-events in subst (Below (limits .events)) (path-members o n (omega arith)) (keep-below (along T (take d P)) n 0 (limits .events) (omega arith))
 
 -- the bytes of words that go with the path are those of the path
 module _ {n : ℕ} {T : List ℕ} {c : ℕ} {P : List ℕ} {d at : ℕ} (o : Open n T c P d at) {ws : List ℕ} (k : Carries T P d ws) where
@@ -59,48 +68,3 @@ place room used cut {r} {part} u l =
       short = λ z. let s = l .short z in let h = s .0 in (omega arith, ap (putMid used (length room - used) room) (s .1) ∙ put-same used (length room - used) room);
       placed = λ z. let p = l .laid z in let h = p .1 in (p .0, omega arith, shape room used r cut part (p .2));
     }
-
--- ---- read back
-
--- the members from k on are read
-pub record Read (R : List ℕ) (from size k : ℕ) (out : List ℕ) : Type 0 where
-  pub low : k ≤ size
-  pub long : length out ≡ words
-  pub is : setOf out ≡ ofEvents (picked R (from + 2 * k) (size - k))
-
-pub read-none : (R : List ℕ) (from size : ℕ) (out : List ℕ) → out ≡ replicate words 0 → Read R from size size out
-unfolding ofEvents picked
-read-none R from size out q =
-    let z : size - size ≡ 0 = omega arith in
-    record { low = omega arith; long = ap length q; is = ap setOf q ∙ empty-none words ∙ sym (ap (λ (j : ℕ). ofEvents (picked R (from + 2 * size) j)) z) }
-
-module _ {R : List ℕ} {from size k : ℕ} {out : List ℕ} (g : Read R from size k out) where
-  pub read-more : {out′ : List ℕ} (e : ℕ) → 0 < k → e ≡ getD R (from + 2 * (k - 1) + 1) 0 → length out′ ≡ length out → setOf out′ ≡ put e true (setOf out) → Read R from size (k - 1) out′
-  unfolding ofEvents picked
-  read-more e h q long add =
-      let lw = g .low in
-      let s : size - (k - 1) ≡ suc (size - k) = omega arith in
-      let t : from + 2 * (k - 1) + 2 ≡ from + 2 * k = omega arith in
-      record {
-        low = omega arith;
-        long = long ∙ g .long;
-        is = add ∙ ap₂ (λ (x : ℕ) (S : Set). put x true S) q (g .is)
-            ∙ sym (ap (λ (j : ℕ). ofEvents (picked R (from + 2 * (k - 1)) j)) s ∙ ap (λ (j : ℕ). put (getD R (from + 2 * (k - 1) + 1) 0) true (ofEvents (picked R j (size - k)))) t);
-      }
-
-  pub read-end : k ≡ 0 → (length out ≡ words) × (setOf out ≡ ofEvents (picked R from size))
-  read-end z =
-      let a : from + 2 * k ≡ from = omega arith in
-      let b : size - k ≡ size = omega arith in
-      (g .long, g .is ∙ ap₂ (λ (x y : ℕ). ofEvents (picked R x y)) a b)
-
--- what was written is read
-pub picked-all : (front t rest : List ℕ) (from : ℕ) → length front ≡ from → picked (front ++ (memberBytes t ++ rest)) from (length t) ≡ t
-unfolding picked memberBytes
-picked-all front [] rest from e = refl
-picked-all front (x ∷ t) rest from e =
-    let R = front ++ (0x21 ∷ x ∷ (memberBytes t ++ rest)) in
-    let first : getD R (from + 1) 0 ≡ x = ap (λ (j : ℕ). getD R (j + 1) 0) (sym e) ∙ getD-append-add front (0x21 ∷ x ∷ (memberBytes t ++ rest)) 1 0 in
-    let longer : R ≡ (front ++ (0x21 ∷ x ∷ [])) ++ (memberBytes t ++ rest) = sym (append-assoc front (0x21 ∷ x ∷ []) (memberBytes t ++ rest)) in
-    ap₂ (λ (y : ℕ) (l : List ℕ). y ∷ l) first
-    (ap (λ (R : List ℕ). picked R (from + 2) (length t)) longer ∙ picked-all (front ++ (0x21 ∷ x ∷ [])) t rest (from + 2) (length-append front (0x21 ∷ x ∷ []) ∙ ap (λ (j : ℕ). j + 2) e))

@@ -3,24 +3,24 @@
 use mathlib.Core.Path.{_≡_, refl, sym, ap, ap₂, _∙_, subst}
 use mathlib.Core.Bool.{Bool, true, false, false≢true}
 use mathlib.Core.List.{List, [], _∷_, _++_, append-assoc, append-nil}
-use Prim.Native.Nat.{ℕ, zero, suc, _+_, _-_, _/_, _≤_, _<_}
+use Prim.Native.Nat.{ℕ, zero, suc, _+_, _-_, _≤_, _<_}
 use native.Mathlib.Omega.{arith}
 use lib.ListN.{length, take, drop, length-append, length-drop}
-use lib.Seq.{length-take-le}
+use lib.Seq.{length-take-le, drop-drop, drop-at}
 use Rattle.paper.specs.Limits.{limits}
 use Rattle.paper.specs.Lists.{lastOr}
 use Rattle.paper.specs.Sets.{Set, none, ofEvents}
 use Rattle.paper.specs.Listing.{memberBytes, cutBytes, setBytes, setsBytes}
+use Rattle.paper.proofs.Listing.{cut-long}
 use Rattle.algebra.proofs.Lists.{flat-append}
 use Rattle.sets.specs.Words.{setOf}
 use Rattle.sets.proofs.Bytes.{joined}
 use Rattle.walk.specs.Paths.{eventsOf, along, around, Open, leftOf, Reached}
 use Rattle.walk.proofs.Paths.{around-one}
-use Rattle.walk.proofs.Members.{events-length}
-use Rattle.listing.specs.Bytes.{Placed, picked}
+use Rattle.listing.specs.Bytes.{Placed, Stand, SomeStand, LastRead}
 use Rattle.listing.specs.Answers.{Short}
 use Rattle.listing.specs.Calls.{Stopped, Listing, short, wrote}
-use Rattle.listing.proofs.Bytes.{path-bytes, path-size, picked-all}
+use Rattle.listing.proofs.Bytes.{path-bytes, path-below}
 
 -- ---- lists of sets
 
@@ -46,6 +46,12 @@ len-zero (S ∷ l) e = absurd (omega arith)
 
 -- ---- the loop
 
+-- the cut from byte `from` to byte `used` is that of the set S
+pub record Last (room : List ℕ) (from used : ℕ) (S : Set) : Type 0 where
+  pub events : List ℕ
+  pub stand : Stand room from (used - 1) events
+  pub is : ofEvents events ≡ S
+
 -- where the loop is: the cuts written, the last of them in the bytes from `from` on, and those left, the first of which is the path's
 pub record Run (n : ℕ) (T : List ℕ) (c : ℕ) (l : List Set) (base room₀ room P : List ℕ) (found : Bool) (d from used k : ℕ) : Type 0 where
   pub written : List Set
@@ -61,7 +67,7 @@ pub record Run (n : ℕ) (T : List ℕ) (c : ℕ) (l : List Set) (base room₀ r
   pub within : used ≤ length room₀
   pub from-le : from ≤ used
   pub none : k ≡ 0 → used ≤ from
-  pub last : 0 < k → (from < used) × (ofEvents (picked room from ((used - from) / 2)) ≡ lastOr (setOf base) written)
+  pub last : 0 < k → (from < used) × Last room from used (lastOr (setOf base) written)
 
 pub run-start : {n : ℕ} {T : List ℕ} {c : ℕ} {l : List Set} {P : List ℕ} {found : Bool} {d : ℕ} (base room₀ : List ℕ) → Reached n T c P found d l → length P ≡ limits .events → Run n T c l base room₀ room₀ P found d 0 0 0
 run-start {l = l} base room₀ r q = record {
@@ -85,19 +91,23 @@ module _ {n : ℕ} {T : List ℕ} {c : ℕ} {l : List Set} {base room₀ room P 
   pub run-long : length room ≡ length room₀
   run-long = let h = r .within in let u = r .bytes-used in ap length (r .bytes) ∙ simp (length-append, length-drop) (omega arith)
 
-  pub run-inside : (from ≤ used) × (used ≤ length room)
-  run-inside = (r .from-le, let l = run-long in let h = r .within in omega arith)
+  pub run-inside : (from ≤ used) × (from < used → SomeStand room from (used - 1))
+  run-inside = (r .from-le, λ h. go k refl h)
+    where
+      go : (j : ℕ) → k ≡ j → from < used → SomeStand room from (used - 1)
+      go zero e h = let n = r .none e in absurd (omega arith)
+      go (suc j) e h = let l = r .last (omega arith) .1 in record { events = l .events; stand = l .stand }
 
   -- the last set, as it was read back
-  run-last : (last : List ℕ) → (used ≤ from → last ≡ base) → (from < used → setOf last ≡ ofEvents (picked room from ((used - from) / 2))) → setOf last ≡ lastOr (setOf base) (r .written)
-  run-last last z s = go k refl
+  run-last : (last : List ℕ) → LastRead room from used base last → setOf last ≡ lastOr (setOf base) (r .written)
+  run-last last (z, s) = go k refl
     where
       go : (j : ℕ) → k ≡ j → setOf last ≡ lastOr (setOf base) (r .written)
       go zero e = ap setOf (z (r .none e)) ∙ ap (lastOr (setOf base)) (sym (len-zero (r .written) (sym (r .count) ∙ e)))
-      go (suc j) e = let h = r .last (omega arith) in s (h .0) ∙ h .1
+      go (suc j) e = let h = r .last (omega arith) in s (h .0) (h .1 .events) (h .1 .stand) ∙ h .1 .is
 
   -- the loop ends: no cut is left
-  pub run-end : {last : List ℕ} {a b k′ used′ : ℕ} {last′ : List ℕ} {fin : Bool} → found ≡ false → (used ≤ from → last ≡ base) × (from < used → setOf last ≡ ofEvents (picked room from ((used - from) / 2)))
+  pub run-end : {last : List ℕ} {a b k′ used′ : ℕ} {last′ : List ℕ} {fin : Bool} → found ≡ false → LastRead room from used base last
       → (a ≡ 0) × (b ≡ 0) × (k′ ≡ k) × (used′ ≡ used) × (last′ ≡ last) × (fin ≡ true) → Listing n l (setOf base) room₀ room a b k′ used′ last′ fin
   run-end {last} e q y =
       let z : r .left ≡ [] = r .left-is ∙ ap (λ (f : Bool). leftOf f T P d) e in
@@ -115,7 +125,7 @@ module _ {n : ℕ} {T : List ℕ} {c : ℕ} {l : List Set} {base room₀ room P 
         cuts = y .2 ∙ r .count;
         long = y .3 ∙ r .bytes-used;
         bytes = r .bytes ∙ ap (λ (j : ℕ). setsBytes n (r .written) ++ drop j room₀) (sym (y .3));
-        last-set = ap setOf (y .4) ∙ run-last last (q .0) (q .1);
+        last-set = ap setOf (y .4) ∙ run-last last q;
         end = (λ _. z, λ _. y .5);
       })
 
@@ -125,10 +135,10 @@ module _ {n : ℕ} {T : List ℕ} {c : ℕ} {l : List Set} {base room₀ room P 
 
     -- the next cut does not fit
     module _ {w : ℕ} {room′ : List ℕ} (z : w ≡ 0) (pl : Placed room used (setBytes n (along T (take d P))) w room′) where
-      pub short-inside : (from ≤ used) × (used ≤ length room′)
-      short-inside = subst (λ (x : List ℕ). (from ≤ used) × (used ≤ length x)) (sym (pl .short z .1)) run-inside
+      pub short-inside : (from ≤ used) × (from < used → SomeStand room′ from (used - 1))
+      short-inside = subst (λ (x : List ℕ). (from ≤ used) × (from < used → SomeStand x from (used - 1))) (sym (pl .short z .1)) run-inside
 
-      pub run-short : {last : List ℕ} {a b k′ used′ : ℕ} {last′ : List ℕ} {fin : Bool} → (used ≤ from → last ≡ base) × (from < used → setOf last ≡ ofEvents (picked room′ from ((used - from) / 2)))
+      pub run-short : {last : List ℕ} {a b k′ used′ : ℕ} {last′ : List ℕ} {fin : Bool} → LastRead room′ from used base last
           → Stopped k used last a b k′ used′ last′ fin → Listing n l (setOf base) room₀ room′ a b k′ used′ last′ fin
       run-short {last} {a} {b} {k′} {used′} {last′} {fin} q st = judge k refl
         where
@@ -173,7 +183,7 @@ module _ {n : ℕ} {T : List ℕ} {c : ℕ} {l : List Set} {base room₀ room P 
                 cuts = y .2 ∙ r .count;
                 long = y .3 ∙ r .bytes-used;
                 bytes = pl .short z .1 ∙ r .bytes ∙ ap (λ (j : ℕ). setsBytes n (r .written) ++ drop j room₀) (sym (y .3));
-                last-set = ap setOf (y .4) ∙ run-last last (q .0) (λ h. q .1 h ∙ ap (λ (x : List ℕ). ofEvents (picked x from ((used - from) / 2))) (pl .short z .1));
+                last-set = ap setOf (y .4) ∙ run-last last (subst (λ (x : List ℕ). LastRead x from used base last) (pl .short z .1) q);
                 end = (λ t. absurd (false≢true (sym (y .5) ∙ t)), λ x. absurd (nil-cons (sym x ∙ next)));
               })
 
@@ -185,23 +195,29 @@ module _ {n : ℕ} {T : List ℕ} {c : ℕ} {l : List Set} {base room₀ room P 
       pub run-less : length room₀ - (used + w) < length room₀ - used
       run-less = let p = run-fits in omega arith
 
-      -- the last cut's bytes are read as its events
-      stands : ofEvents (picked room′ used ((used + w - used) / 2)) ≡ along T (take d P)
+      -- the members of the cut stand where it was placed
+      stands : Last room′ used (used + w) (along T (take d P))
       unfolding cutBytes
       stands =
           let p = pl .placed z in
           let w-is = p .0 in
-          let size = path-size (r .path) in
-          let long = run-long in
-          let wi = r .within in
+          let fits = p .1 in
           let t = eventsOf T (take d P) in
           let back = (0x22 ∷ []) ++ drop (used + w) room in
+          let cut = path-bytes (r .path) n (omega arith) in
+          let size : w ≡ length (memberBytes t) + 1 = w-is ∙ ap length cut ∙ cut-long t in
           let is : room′ ≡ take used room ++ (memberBytes t ++ back) =
-          p .2 ∙ ap (λ (x : List ℕ). take used room ++ (x ++ drop (used + w) room)) (path-bytes (r .path) n (omega arith))
-          ∙ ap (λ (x : List ℕ). take used room ++ x) (append-assoc (memberBytes t) (0x22 ∷ []) (drop (used + w) room)) in
-          let front : length (take used room) ≡ used = length-take-le used room (omega arith) in
-          let many : (used + w - used) / 2 ≡ length t = let e = events-length (r .path) in omega arith in
-          ap ofEvents (ap (picked room′ used) many ∙ ap (λ (R : List ℕ). picked R used (length t)) is ∙ picked-all (take used room) t back used front)
+          p .2 ∙ ap (λ (x : List ℕ). take used room ++ (x ++ drop (used + w) room)) cut ∙ ap (λ (x : List ℕ). take used room ++ x) (append-assoc (memberBytes t) (0x22 ∷ []) (drop (used + w) room)) in
+          let behind : drop used room′ ≡ memberBytes t ++ back = ap (drop used) is ∙ drop-at (take used room) (memberBytes t ++ back) used (length-take-le used room (omega arith)) in
+          let ends : used + w - 1 ≡ used + length (memberBytes t) = omega arith in
+          let rest : drop (used + w - 1) room′ ≡ back =
+          ap (λ (j : ℕ). drop j room′) ends ∙ sym (drop-drop (length (memberBytes t)) used room′) ∙ ap (drop (length (memberBytes t))) behind ∙ drop-at (memberBytes t) back (length (memberBytes t)) refl in
+          let long : length room′ - used ≡ length (memberBytes t) + length back = sym (length-drop used room′) ∙ ap length behind ∙ length-append (memberBytes t) back in
+          record {
+            events = t;
+            stand = record { bytes = behind ∙ ap (λ (x : List ℕ). memberBytes t ++ x) (sym rest); ends = ends; inside = omega arith; below = path-below (r .path) };
+            is = refl;
+          }
 
       pub run-more : {P′ : List ℕ} {found′ : Bool} {d′ : ℕ} → Reached n T c P′ found′ d′ (around T (take d P) []) → length P′ ≡ limits .events
           → Run n T c l base room₀ room′ P′ found′ d′ used (used + w) (k + 1)
@@ -225,5 +241,5 @@ module _ {n : ℕ} {T : List ℕ} {c : ℕ} {l : List Set} {base room₀ room P 
             within = run-fits;
             from-le = omega arith;
             none = λ h. absurd (omega arith);
-            last = λ _. (omega arith, stands ∙ sym (last-more (setOf base) (r .written) S));
+            last = λ _. (omega arith, subst (Last room′ used (used + w)) (sym (last-more (setOf base) (r .written) S)) stands);
           }

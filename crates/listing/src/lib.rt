@@ -1,16 +1,16 @@
 // Lists the cuts of a cut diagram in order, as many as fit into a room: each from its set, the next from the path of the last.
 ghost use mathlib.Core.Path.{_≡_};
 ghost use mathlib.Core.Bool.{true};
-ghost use Prim.Native.Nat.{_+_, _-_, _*_, _/_, _≤_, _<_};
+ghost use Prim.Native.Nat.{_-_, _*_, _≤_, _<_};
 ghost use lib.ListN.{length};
-ghost use Rattle.paper.specs.Sets.{members, ofEvents};
+ghost use Rattle.paper.specs.Sets.{members};
 ghost use Rattle.paper.specs.Listing.{setBytes};
 ghost use Rattle.sets.specs.Words.{words, setOf};
 ghost use Rattle.sets.specs.Beside.{Between, Ahead, Line};
 ghost use Rattle.tables.specs.Table.{den};
 ghost use Rattle.tables.specs.Lent.{Lent};
 ghost use Rattle.walk.specs.After.{toList};
-ghost use Rattle.listing.specs.Bytes.{Placed, picked};
+ghost use Rattle.listing.specs.Bytes.{Placed, SomeStand, SomeMember, Told, ReadBack, LastRead};
 ghost use Rattle.listing.specs.Answers.{Answered};
 ghost use Rattle.listing.specs.Calls.{Refusal, Stopped, Listing};
 
@@ -47,30 +47,55 @@ fn small(x: u8) -> usize
     x as usize
 }
 
-// The set of a cut of `size` members whose bytes start at `from`.
-fn read_back(room: &[u8], from: usize, size: usize) -> [u64; sets::WORDS]
-    requires { ⌜ from + 2 * size ≤ length (now room) ⌝ }
-    ensures { λ r. ⌜ (length r ≡ words) × (setOf r ≡ ofEvents (picked (now (room .entry)) from size)) ⌝ }
+// A member, and the bytes of its record.
+pub struct Member {
+    pub event: usize,
+    pub width: usize,
+}
+
+// The member whose record stands at `at`.
+fn member_at(room: &[u8], at: usize) -> Member
+    requires { ⌜ SomeMember (now room) at ⌝ }
+    ensures { λ r. ⌜ Told (now (room .entry)) at (r .event) (r .width) ⌝ }
+{
+    let low = small(room[at + 1]);
+    if room[at] == 0x21 {
+        return Member {
+            event: low,
+            width: 2,
+        };
+    }
+    let high = small(room[at + 2]);
+    Member {
+        event: low + 256 * high,
+        width: 3,
+    }
+}
+
+// The set of the members that stand from `from` to `to`.
+fn read_back(room: &[u8], from: usize, to: usize) -> [u64; sets::WORDS]
+    requires { ⌜ SomeStand (now room) from to ⌝ }
+    ensures { λ r. ⌜ ReadBack (now (room .entry)) from to r ⌝ }
 {
     let mut out = sets::empty();
-    let mut k = size;
-    while 0 < k {
-        k -= 1;
-        let e = small(room[from + 2 * k + 1]);
-        sets::add(&mut out, e);
+    let mut at = from;
+    while at < to {
+        let m = member_at(room, at);
+        sets::add(&mut out, m.event);
+        at += m.width;
     }
     out
 }
 
 // The last set: that of the last cut, whose bytes run from `from` to `used`; the one that the call started after where there are none.
 fn last_set(room: &[u8], from: usize, used: usize, base: [u64; sets::WORDS]) -> [u64; sets::WORDS]
-    requires { ⌜ (from ≤ used) × (used ≤ length (now room)) ⌝ }
-    ensures { λ r. ⌜ (used ≤ from → r ≡ base) × (from < used → setOf r ≡ ofEvents (picked (now (room .entry)) from ((used - from) / 2))) ⌝ }
+    requires { ⌜ (from ≤ used) × (from < used → SomeStand (now room) from (used - 1)) ⌝ }
+    ensures { λ r. ⌜ LastRead (now (room .entry)) from used base r ⌝ }
 {
     if from == used {
         return base;
     }
-    read_back(room, from, (used - from) / 2)
+    read_back(room, from, used - 1)
 }
 
 // What a listing call answers: its number, its place, which is 0 always, the cuts written, the bytes used, the last set, and whether no cut follows it.

@@ -7,9 +7,6 @@ ghost use Rattle.followup.specs.Tops.{Priced, lowOf, highOf, Held};
 
 mod pages; // pages.rt: the lines of the cuts, one room after another
 
-// No more of the input is read: these bytes decide.
-const MOST: usize = 16384;
-
 // Each table has room for 4,096 nodes, and each work area a number for each of them and for the leaves.
 const TABLE: usize = 12288;
 
@@ -126,8 +123,9 @@ fn answer(bytes: &[u8]) {
     report(tree, a, &nodes, &cuts, &mut heads, &mut next);
 }
 
+// No more of the input is read: these bytes decide.
 fn main() {
-    let mut bytes = [0u8; MOST];
+    let mut bytes = [0u8; paper::BYTES];
     let n = io::read_full(0, &mut bytes);
     answer(&bytes[..n]);
 }

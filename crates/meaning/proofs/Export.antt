@@ -24,7 +24,7 @@ use Rattle.lines.proofs.Spelling.{spelled-or, spelled-and, spelled-least, spell
 use Rattle.meaning.specs.Within.{LeastFits}
 use Rattle.meaning.specs.Exported.{gateSays, gatesSaid, chancesSaid, linesSaid, treeAgain, chanceAt, SaysAgain}
 use Rattle.meaning.proofs.Decimals.{small, value-decimal}
-use Rattle.meaning.proofs.Numerals.{every-append, decimal-number, decimal-plain, event-is-name, gate-is-name, event-plain, gate-plain}
+use Rattle.meaning.proofs.Numerals.{nameable, every-append, decimal-number, decimal-plain, event-is-name, gate-is-name, event-plain, gate-plain}
 use Rattle.meaning.proofs.Feeds.{lines-next, lines-none}
 use Rattle.meaning.proofs.AgainNames.{below-at, lower-at, used-at}
 use Rattle.meaning.proofs.Again.{says-again}
@@ -85,7 +85,7 @@ record Typable (x : Gate) : Type 0 where
   least : LeastFits x
   names : (i : Input) → In i (inputsTo x) → isName (inputName i) ≡ true
 
-gate-spelled : (g : ℕ) (x : Gate) → g < 1000 → 1 ≤ length (inputsTo x) → length (inputsTo x) < small → LeastFits x → every isName (map inputName (inputsTo x)) ≡ true
+gate-spelled : (g : ℕ) (x : Gate) → g < nameable → 1 ≤ length (inputsTo x) → length (inputsTo x) < small → LeastFits x → every isName (map inputName (inputsTo x)) ≡ true
     → lineOf (lineBy g x) ≡ gateSays g x
 unfolding join
 gate-spelled g (andG []) l a b f n = let z : ⊥ = omega arith in absurd z
@@ -101,7 +101,7 @@ gate-spelled g (leastG k (i ∷ j ∷ is)) l a b f n =
     spelled-least (gateName g) (gate-is-name g l) (decimal k) (decimal-number k q) (inputName i) (map inputName (j ∷ is)) n
     ∙ ap (λ m. equation (gateName g) (at-least m) (map inputName (i ∷ j ∷ is))) (value-decimal k q)
 
-gates-lines : (at g : ℕ) (xs : List Gate) (tail : List ℕ) → g + length xs ≤ 1000 → ((x : Gate) → In x xs → Typable x)
+gates-lines : (at g : ℕ) (xs : List Gate) (tail : List ℕ) → g + length xs ≤ nameable → ((x : Gate) → In x xs → Typable x)
     → linesFrom at (gateLines g xs ++ tail) ≡ gatesSaid at g xs ++ linesFrom (at + length (gateLines g xs)) tail
 unfolding gateLines
 gates-lines at g [] tail h f = let q : at ≡ at + 0 = omega arith in ap (λ n. linesFrom n tail) q
@@ -117,7 +117,7 @@ gates-lines at g (x ∷ xs) tail h f =
     (ap (λ n. linesFrom n (more ++ tail)) next ∙ gates-lines (at + length (gateLine g x)) (suc g) xs tail (omega arith) (λ z k. f z (inr k))
     ∙ ap (λ n. gatesSaid (at + length (gateLine g x)) (suc g) xs ++ linesFrom n tail) end)
 
-chances-lines : (at e : ℕ) (cs : List ℕ) → e + length cs ≤ 1000 → ((c : ℕ) → In c cs → c < small) → linesFrom at (chanceLines e cs) ≡ chancesSaid at e cs
+chances-lines : (at e : ℕ) (cs : List ℕ) → e + length cs ≤ nameable → ((c : ℕ) → In c cs → c < small) → linesFrom at (chanceLines e cs) ≡ chancesSaid at e cs
 unfolding chanceLines
 chances-lines at e [] h f = lines-none at
 chances-lines at e (c ∷ cs) h f =

@@ -105,24 +105,28 @@ digits-few (suc k) (suc j) n h = go (ltb n 10) refl (digits-few k j (n / 10))
     go true e r = omega arith
     go false e r = let a = r (omega arith) in let b = length-append (digitsOf k (n / 10)) ((48 + n % 10) ∷ []) in omega arith
 
-decimal-few : (n : ℕ) → n < 1000 → length (decimal n) ≤ 3
+-- a number that fits a name with its letter: a name has 12 bytes at most, and no tree has so many events or gates
+abbrev pub nameable : ℕ
+nameable = 10_000
+
+decimal-few : (n : ℕ) → n < nameable → length (decimal n) ≤ 4
 unfolding decimal
-decimal-few n h = digits-few 20 2 n h
+decimal-few n h = digits-few 20 3 n h
 
 -- ---- names
 
-pub event-is-name : (e : ℕ) → e < 1000 → isName (eventName e) ≡ true
+pub event-is-name : (e : ℕ) → e < nameable → isName (eventName e) ≡ true
 unfolding isName eventName beginsWith letter letterOrDigit digit reserved same
 event-is-name e h = name (decimal e) (every-more digit letterOrDigit digit-in-name (decimal e) (decimal-digits e)) (decimal-few e h)
   where
-    name : (l : List ℕ) → every letterOrDigit l ≡ true → length l ≤ 3 → isName (101 ∷ l) ≡ true
+    name : (l : List ℕ) → every letterOrDigit l ≡ true → length l ≤ 4 → isName (101 ∷ l) ≡ true
     name l a b = rw (a, le-leb (suc (length l)) 12 (omega arith)) refl
 
-pub gate-is-name : (g : ℕ) → g < 1000 → isName (gateName g) ≡ true
+pub gate-is-name : (g : ℕ) → g < nameable → isName (gateName g) ≡ true
 unfolding isName gateName beginsWith letter letterOrDigit digit reserved same
 gate-is-name g h = name (decimal g) (every-more digit letterOrDigit digit-in-name (decimal g) (decimal-digits g)) (decimal-few g h)
   where
-    name : (l : List ℕ) → every letterOrDigit l ≡ true → length l ≤ 3 → isName (103 ∷ l) ≡ true
+    name : (l : List ℕ) → every letterOrDigit l ≡ true → length l ≤ 4 → isName (103 ∷ l) ≡ true
     name l a b = rw (a, le-leb (suc (length l)) 12 (omega arith)) refl
 
 -- ---- no byte below a blank: no line feed

@@ -1,6 +1,7 @@
 -- The answer numbers, and when those that speak of functions, families and sets are given.
 -- Assumes nothing.
 use mathlib.Core.Path.{_≡_}
+use mathlib.Core.Logic.{_⊎_}
 use mathlib.Core.Bool.{true}
 use Prim.Native.Nat.{ℕ, _+_, _≤_, _<_}
 use lib.ListN.{length}
@@ -13,6 +14,14 @@ use Rattle.paper.specs.Cuts.{cutNodesNeeded}
 pub record Verdict : Type 0 where
   pub number : ℕ
   pub place : ℕ
+
+-- the numbers of a reading that refuses
+abbrev pub OfReading : ℕ → Type 0
+OfReading k = ((1 ≤ k) × (k ≤ 8)) ⊎ (k ≡ 21)
+
+-- the numbers of an analysis that has written nothing: those, and 9
+abbrev pub Unwritten : ℕ → Type 0
+Unwritten k = OfReading k ⊎ (k ≡ 9)
 
 -- 10: nodes needed exceeds the capacity
 abbrev pub NodesFull : Tree → ℕ → Type 0

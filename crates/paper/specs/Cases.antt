@@ -10,7 +10,7 @@ use lib.Dec.{ltb}
 use lib.ListN.{length, getD}
 use Rattle.paper.specs.Limits.{billion}
 use Rattle.paper.specs.Lists.{upTo}
-use Rattle.paper.specs.Sets.{Set, none, put, members}
+use Rattle.paper.specs.Sets.{Set, none, members, ofEvents}
 use Rattle.paper.specs.Functions.{Fun, agree, dependsOn}
 use Rattle.paper.specs.Trees.{event, gate, Gate, andG, orG, leastG, Tree, events, constF, gateFuns, rootFun}
 use Rattle.paper.specs.Steps.{stepFuns}
@@ -18,7 +18,7 @@ use Rattle.paper.specs.Nodes.{nodesNeeded, nodesToGate, nodesOf, nodesAd
 use Rattle.paper.specs.Diagrams.{Diagram, leaf, node, diagramOf}
 use Rattle.paper.specs.Cuts.{setsOf, cutList, cutNodesNeeded}
 use Rattle.paper.specs.Order.{fromStart}
-use Rattle.paper.specs.Listing.{memberBytes, cutBytes, setsBytes, fitting, Listed, listed}
+use Rattle.paper.specs.Listing.{member, memberBytes, cutBytes, setsBytes, fitting, Listed, listed}
 use Rattle.paper.specs.Chance.{total, low, high, standing}
 use Rattle.paper.specs.Answers.{FilledAt, cutNodesOf}
 
@@ -55,10 +55,6 @@ record Row : Type 0 where
 
 -- ---- what the definitions say
 
-these : List ℕ → Set
-these [] = none
-these (e ∷ es) = put e true (these es)
-
 full : ℕ → ℕ → ℕ → Answer
 full refusal capacity needed = number (cond (ltb capacity needed) refusal 0)
 
@@ -84,7 +80,7 @@ define t (nodeTable c) = full 10 c (nodesOf t)
 define t (cutTable c) = full 11 c (cutNodesOf t)
 define t cuts = sets (map (members (events t)) (cutsOf t))
 define t (list room) = listingOf (events t) (listed (events t) room (fromStart true (events t) none (cutsOf t)))
-define t (listAfter s room) = listingOf (events t) (listed (events t) room (fromStart false (events t) (these s) (cutsOf t)))
+define t (listAfter s room) = listingOf (events t) (listed (events t) room (fromStart false (events t) (ofEvents s) (cutsOf t)))
 define t chance = bracketOf t (diagramOf (events t) 0 (rootFun (t .gates)))
 define t (agreeing i j) = said (agree (events t) (gateOf t i) (gateOf t j))
 
@@ -197,8 +193,8 @@ table =
 
 -- THE CASES
 as-the-paper-says : map (λ r. define (r .tree) (r .asked)) table ≡ map (λ r. r .answered) table
-unfolding define these full listingOf bracketOf gateOf cutsOf tenth three two first sixth absorbed twoOfThree reversed fourGates one rare twins oneFunction oneNumber row table
-    gateFuns rootFun stepFuns nodesNeeded cutList cutNodesNeeded dependsOn memberBytes cutBytes fitting listed total ℕ-discrete
+unfolding define full listingOf bracketOf gateOf cutsOf tenth three two first sixth absorbed twoOfThree reversed fourGates one rare twins oneFunction oneNumber row table
+    gateFuns rootFun stepFuns nodesNeeded cutList cutNodesNeeded dependsOn member memberBytes cutBytes ofEvents fitting listed total ℕ-discrete
 as-the-paper-says = refl
 
 -- where tables with room for 5, 4 and 2 nodes are full
@@ -223,3 +219,8 @@ as-the-gates-fill = (
 as-the-figures-say : map (λ d. map (members 3) (setsOf d)) (node 0 (leaf true) (node 2 (leaf true) (leaf false)) ∷ node 0 (leaf true) (leaf true) ∷ [])
     ≡ ((0 ∷ []) ∷ (2 ∷ []) ∷ []) ∷ ((0 ∷ []) ∷ [] ∷ []) ∷ []
 as-the-figures-say = refl
+
+-- events 255, 256 and 257 in one cut
+as-wide-members-are-listed : cutBytes (255 ∷ 256 ∷ 257 ∷ []) ≡ 0x21 ∷ 0xFF ∷ 0x23 ∷ 0x00 ∷ 0x01 ∷ 0x23 ∷ 0x01 ∷ 0x01 ∷ 0x22 ∷ []
+unfolding member memberBytes cutBytes
+as-wide-members-are-listed = refl

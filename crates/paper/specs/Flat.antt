@@ -5,11 +5,12 @@ use mathlib.Core.List.{List, [], _∷_, map}
 use Prim.Native.Nat.{ℕ, _+_, _-_}
 use lib.Dec.{ltb, eqb}
 use lib.ListN.{getD, take, drop}
+use Rattle.paper.specs.Limits.{limits}
 use Rattle.paper.specs.Trees.{Input, event, gate, Gate, andG, orG, leastG}
 
 -- the input that stands for gate 0: an event's input is its number, and a gate's is its number with this added
 abbrev pub gatesFrom : ℕ
-gatesFrom = 256
+gatesFrom = limits .events
 
 abbrev pub inputOf : ℕ → Input
 inputOf code = cond (ltb code gatesFrom) (event code) (gate (code - gatesFrom))

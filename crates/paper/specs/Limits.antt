@@ -1,5 +1,6 @@
--- The limits of a tree, of a table, and the unit of chance.
+-- The limits of a tree, of a table, of what the program reads, and the unit of chance.
 -- Assumes nothing.
+use mathlib.Core.Bool.{Bool, true, false}
 use Prim.Native.Nat.{ℕ}
 
 pub record Limits : Type 0 where
@@ -8,9 +9,23 @@ pub record Limits : Type 0 where
   pub gates : ℕ
   pub inputs : ℕ
   pub inAll : ℕ
+  -- whether there are events above 255, and kind 08 for them
+  pub wide : Bool
 
 abbrev pub limits : Limits
-limits = record { events = 256; gates = 512; inputs = 64; inAll = 4096 }
+limits = record { events = 1024; gates = 512; inputs = 64; inAll = 4096; wide = true }
+
+-- the limits of an old reader: no kind 08, so no event that a byte does not name
+abbrev pub oldLimits : Limits
+oldLimits = record { events = 256; gates = limits .gates; inputs = limits .inputs; inAll = limits .inAll; wide = false }
+
+-- the number of an event takes one byte below this, and two bytes from it on
+abbrev pub wideFrom : ℕ
+wideFrom = 256
+
+-- the program reads at most so many bytes
+abbrev pub mostBytes : ℕ
+mostBytes = 20480
 
 -- a table has at most so many numbers, three for each node
 abbrev pub mostNumbers : ℕ

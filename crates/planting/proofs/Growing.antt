@@ -140,8 +140,7 @@ module _ {S I : List ℕ} {n : ℕ} {Q : List ℕ} {left : ℕ} {N K L : List �
             arrays = a .numbered .arrays;
             low = grown-low;
             long = a .numbered .long;
-            small = λ y h. either (isEvent (inputs y)) (λ e. omega (arith, event-small y h e)) (λ e. gate-small y h e);
-            events = event-small;
+            small = λ y h. either (isEvent (inputs y)) (λ e. event-small y h e) (λ e. omega (arith, gate-small y h e));
           }
 
         module _ {d m : ℕ} (few : DistinctTold S I N x d) (judged : GateTold g used (getD K x 0) (getD L x 0) size d m) where

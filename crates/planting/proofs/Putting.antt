@@ -60,7 +60,7 @@ module _ {S I : List ℕ} {n : ℕ} {N : List ℕ} {x used : ℕ} (a : Putable S
         split-next : inputsOf S I x ≡ w .done ++ (y ∷ slice (p + 1) (getD S (x + 1) 0) I)
         split-next = w .split ∙ ap (λ m. w .done ++ m) next
 
-        pub put-small : getD N y 0 < limits .gates
+        pub put-small : getD N y 0 < limits .events
         put-small = a .small y (subst (λ m. In y m) (sym split-next) (in-second y (w .done) (y ∷ slice (p + 1) (getD S (x + 1) 0) I) (inl refl)))
 
         pub put-room : u < limits .inAll

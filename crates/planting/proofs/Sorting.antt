@@ -4,7 +4,7 @@ use mathlib.Core.Path.{_≡_, refl, sym, ap, _∙_}
 use mathlib.Core.Logic.{inl, inr}
 use mathlib.Core.Bool.{Bool, true, false, cond}
 use mathlib.Core.List.{List, [], _∷_, map, map-map}
-use Prim.Native.Nat.{ℕ, _+_, _≤_, _<_}
+use Prim.Native.Nat.{ℕ, _≤_, _<_}
 use native.Mathlib.Omega.{arith}
 use lib.ListN.{length, getD, take}
 use lib.Seq.{length-take-le}
@@ -27,13 +27,13 @@ module _ {S I : List ℕ} {n : ℕ} {N : List ℕ} {x : ℕ} (a : Sortable S I n
   pub sort-putable : {size : ℕ} → size ≡ length (inputsOf S I x) → size ≤ limits .inputs → Putable S I n N x 0
   sort-putable e h = record { arrays = a .arrays; low = a .low; long = a .long; small = a .small; room = omega arith }
 
-  below : (l : List ℕ) → ((y : ℕ) → In y l → isEvent (inputsOf S I y) ≡ true → getD N y 0 < limits .events) → InputsBelow (limits .events) (map (inputAt S I N) l)
+  below : (l : List ℕ) → ((y : ℕ) → In y l → getD N y 0 < limits .events) → InputsBelow (limits .events) (map (inputAt S I N) l)
   below [] h = tt
-  below (y ∷ l) h = (one (isEvent (inputsOf S I y)) refl, below l (λ z k. h z (inr k)))
+  below (y ∷ l) h = (one (isEvent (inputsOf S I y)), below l (λ z k. h z (inr k)))
     where
-      one : (b : Bool) → isEvent (inputsOf S I y) ≡ b → InputBelow (limits .events) (cond b (event (getD N y 0)) (gate (getD N y 0)))
-      one true e = h y (inl refl) e
-      one false e = tt
+      one : (b : Bool) → InputBelow (limits .events) (cond b (event (getD N y 0)) (gate (getD N y 0)))
+      one true = h y (inl refl)
+      one false = tt
 
   -- their numbers in an empty array
   module _ {size : ℕ} (e : size ≡ length (inputsOf S I x)) {out : List ℕ} (puts : Puts S I N (inputsOf S I x) 0 (pad (limits .inAll) 0 []) out) where
@@ -64,7 +64,7 @@ module _ {S I : List ℕ} {n : ℕ} {N : List ℕ} {x : ℕ} (a : Sortable S I n
     sort-told d small =
         let is : List Input = map (inputAt S I N) (inputsOf S I x) in
         d .count ∙ ap (λ l. length (distinctCodes l)) (front ∙ sym (map-map codeOf (inputAt S I N) (inputsOf S I x)))
-        ∙ ap length (distinct-codes (limits .events) (omega arith) is (below (inputsOf S I x) (a .events))) ∙ map-length codeOf (distinctInputs is)
+        ∙ ap length (distinct-codes (limits .events) (omega arith) is (below (inputsOf S I x) (a .small))) ∙ map-length codeOf (distinctInputs is)
 
   -- more than one gate may have
   pub sort-many : {size : ℕ} → size ≡ length (inputsOf S I x) → limits .inputs < size → DistinctTold S I N x size

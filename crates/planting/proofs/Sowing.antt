@@ -25,15 +25,15 @@ use Rattle.planting.proofs.Orders.{one-more, the-rest, name-in, chances
 
 pub event-many : {e : ℕ} (c : ℕ) → limits .events ≤ e → 4 ≡ eventsBreak limits e (c ∷ [])
 unfolding eventsBreak
-event-many {e} c h = rw (le-leb 256 e h, eventsBreak)
+event-many {e} c h = rw (le-leb (limits .events) e h, eventsBreak)
 
 pub event-high : {e c : ℕ} → e < limits .events → billion < c → 7 ≡ eventsBreak limits e (c ∷ [])
 unfolding eventsBreak
-event-high {e} {c} h k = rw (lt-leb 256 e h, lt-ltb billion c k, eventsBreak)
+event-high {e} {c} h k = rw (lt-leb (limits .events) e h, lt-ltb billion c k, eventsBreak)
 
 pub event-fine : {e c : ℕ} → e < limits .events → c ≤ billion → 0 ≡ eventsBreak limits e (c ∷ [])
 unfolding eventsBreak
-event-fine {e} {c} h k = rw (lt-leb 256 e h, le-ltb billion c k, eventsBreak)
+event-fine {e} {c} h k = rw (lt-leb (limits .events) e h, le-ltb billion c k, eventsBreak)
 
 -- ---- one turn
 

@@ -1,7 +1,6 @@
 -- What planting answers: the number of the first limit that is broken, 0 where none is.
 -- Assumes nothing.
 use mathlib.Core.Path.{_≡_}
-use mathlib.Core.Bool.{true}
 use mathlib.Core.List.{List, map, _++_}
 use Prim.Native.Nat.{ℕ, _+_, _<_, _≤_}
 use lib.ListN.{length, getD}
@@ -9,7 +8,6 @@ use Rattle.paper.specs.Limits.{limits}
 use Rattle.paper.specs.Lists.{In, flat, sum}
 use Rattle.paper.specs.Trees.{Input, Gate, distinctInputs, Tree}
 use Rattle.paper.specs.Flat.{gateOf}
-use Rattle.paper.specs.Walks.{isEvent}
 use Rattle.paper.specs.Importing.{eventsBreak, leastBreaks, gateBreaks, gatesBreak, broken}
 use Rattle.records.specs.Judge.{start}
 use Rattle.records.specs.Memory.{pad, noEvent, memory}
@@ -73,21 +71,20 @@ LeastKept kind k r = (is : List Input) → r ≡ leastOf (gateOf kind k is)
 
 -- ---- the inputs of a gate
 
--- the inputs of name x can be put behind `used` others
+-- the inputs of name x can be put behind `used` others; a gate's number is below the most events too
 pub record Putable (S I : List ℕ) (n : ℕ) (N : List ℕ) (x used : ℕ) : Type 0 where
   pub arrays : Arrays S I n
   pub low : x < n
   pub long : n ≤ length N
-  pub small : (y : ℕ) → In y (inputsOf S I x) → getD N y 0 < limits .gates
+  pub small : (y : ℕ) → In y (inputsOf S I x) → getD N y 0 < limits .events
   pub room : used + length (inputsOf S I x) ≤ limits .inAll
 
--- the inputs of name x are numbered, the events among them below the gates
+-- the inputs of name x are numbered, so that an event is told from a gate
 pub record Sortable (S I : List ℕ) (n : ℕ) (N : List ℕ) (x : ℕ) : Type 0 where
   pub arrays : Arrays S I n
   pub low : x < n
   pub long : n ≤ length N
-  pub small : (y : ℕ) → In y (inputsOf S I x) → getD N y 0 < limits .gates
-  pub events : (y : ℕ) → In y (inputsOf S I x) → isEvent (inputsOf S I y) ≡ true → getD N y 0 < limits .events
+  pub small : (y : ℕ) → In y (inputsOf S I x) → getD N y 0 < limits .events
 
 -- how many of them are distinct, where a gate may have so many
 abbrev pub DistinctTold : (S I N : List ℕ) (x : ℕ) → ℕ → Type 0

@@ -196,7 +196,7 @@ fn least(kind: u32, k: u32) -> u8
 fn code(starts: &[u32], inputs: &[u32], count: u32, numbers: &[u32], y: usize) -> u16
     requires { ⌜ Arrays (now starts) (now inputs) count ⌝ }
     requires { ⌜ (y < count) × (count ≤ length (now numbers)) ⌝ }
-    requires { ⌜ getD (now numbers) y 0 < limits .gates ⌝ }
+    requires { ⌜ getD (now numbers) y 0 < limits .events ⌝ }
     ensures { λ r. ⌜ r ≡ codeOf (inputAt (now (starts .entry)) (now (inputs .entry)) (now (numbers .entry)) y) ⌝ }
 {
     let number = numbers[y];

@@ -30,7 +30,7 @@ use Rattle.memory.specs.Outcome.{Refused, at, Done}
 use Rattle.analyser.specs.Analysed.{Analysed}
 use Rattle.promises.specs.Coincide.{Renumbering, Renumbered, Coincide}
 use Rattle.memory.specs.declared.Analysis.{Analysis}
-use Rattle.promises.proofs.Refusals.{refusal-range}
+use Rattle.promises.proofs.Refusals.{reading-one, refusal-range}
 use Rattle.promises.proofs.Renumbering.{renumbering, match-functions, match-families}
 
 -- ---- two done analyses
@@ -169,7 +169,7 @@ refusing l r s e = Coincide.refused (λ z. let w = r .number in omega arith) (sa
 module _ {bytes : List ℕ} {m m₁ m₂ : Memory} {a₁ a₂ : Analysis} where
   pub coincide : Analysed bytes m m₁ a₁ → Analysed bytes m m₂ a₂ → Coincide m₁ m₂ a₁ a₂
   coincide (Analysed.bad-tree w p r k) (Analysed.bad-tree v q s l) =
-      refusing (refusal-range bytes w p .0) r (subst (λ x. Refused (verdict x) a₂) (same-answer bytes p q) s) (l ∙ sym k)
+      refusing (reading-one (verdict w .number) (refusal-range bytes w p)) r (subst (λ x. Refused (verdict x) a₂) (same-answer bytes p q) s) (l ∙ sym k)
   coincide (Analysed.bad-tree w p r k) (Analysed.bad-length c q n s l) = absurd (not-both bytes p q)
   coincide (Analysed.bad-tree w p r k) (Analysed.nodes-full c i q n f s l) = absurd (not-both bytes p q)
   coincide (Analysed.bad-tree w p r k) (Analysed.cuts-full c q n f g s l) = absurd (not-both bytes p q)

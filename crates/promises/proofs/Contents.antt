@@ -1,5 +1,5 @@
 -- WHAT THE LENT MEMORY HOLDS AT ENTRY DOES NOT MATTER, only its lengths: what may come out of one memory may come out of any other of the same lengths, but
--- for a refusal by 1 to 9, which leaves each as it was.
+-- for a refusal by 1 to 9 or 21, which leaves each as it was.
 -- Assumes nothing.
 use mathlib.Core.Path.{_≡_, refl, sym, subst}
 use mathlib.Core.Logic.{_⊎_, inl, inr}

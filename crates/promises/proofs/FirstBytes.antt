@@ -1,11 +1,11 @@
--- THE FIRST 16,384 BYTES DECIDE an analysis: what may come of them may come of all the bytes, and two such outcomes coincide.
+-- THE BYTES THAT THE PROGRAM READS DECIDE an analysis: what may come of them may come of all the bytes, and two such outcomes coincide.
 -- Assumes nothing.
 use mathlib.Core.Path.{_≡_, sym, _∙_}
 use mathlib.Core.List.{List}
 use Prim.Native.Nat.{ℕ}
 use native.Mathlib.Omega.{arith}
 use lib.ListN.{take}
-use Rattle.paper.specs.Limits.{limits}
+use Rattle.paper.specs.Limits.{limits, mostBytes}
 use Rattle.records.specs.Judge.{outcome}
 use Rattle.trees.proofs.Prefix.{first-bytes-decide}
 use Rattle.memory.specs.Memory.{Memory}
@@ -23,8 +23,8 @@ same-reading e (Analysed.cuts-full b p n f g r k) = Analysed.cuts-full b (e ∙ 
 same-reading e (Analysed.done b p n f g d) = Analysed.done b (e ∙ p) n f g d
 
 module _ {bytes : List ℕ} {m : Memory} where
-  pub first-bytes-analysed : {m′ : Memory} {a : Analysis} → Analysed (take 16384 bytes) m m′ a → Analysed bytes m m′ a
-  first-bytes-analysed = same-reading (sym (first-bytes-decide 16384 (omega arith) bytes))
+  pub first-bytes-analysed : {m′ : Memory} {a : Analysis} → Analysed (take mostBytes bytes) m m′ a → Analysed bytes m m′ a
+  first-bytes-analysed = same-reading (sym (first-bytes-decide mostBytes (omega arith) bytes))
 
-  pub first-bytes-coincide : {m₁ m₂ : Memory} {a₁ a₂ : Analysis} → Analysed (take 16384 bytes) m m₁ a₁ → Analysed bytes m m₂ a₂ → Coincide m₁ m₂ a₁ a₂
+  pub first-bytes-coincide : {m₁ m₂ : Memory} {a₁ a₂ : Analysis} → Analysed (take mostBytes bytes) m m₁ a₁ → Analysed bytes m m₂ a₂ → Coincide m₁ m₂ a₁ a₂
   first-bytes-coincide x y = coincide (first-bytes-analysed x) y

@@ -13,4 +13,5 @@ pub mod Serving
 pub mod OnTables
 pub mod Delivers
 pub mod BySize
+pub mod Old
 pub mod Changed

@@ -4,20 +4,20 @@ use mathlib.Core.Path.{_≡_, refl, sym, _∙_, subst}
 use mathlib.Core.Logic.{_⊎_, inl, inr}
 use mathlib.Core.Bool.{Bool, true, false, false≢true}
 use mathlib.Core.List.{List, [], _∷_}
-use Prim.Native.Nat.{ℕ, _+_, _*_, _≤_}
+use Prim.Native.Nat.{ℕ, _≤_}
 use native.Mathlib.Omega.{arith}
 use lib.ListN.{length}
 use Rattle.paper.specs.Lists.{In, lastOr}
-use Rattle.paper.specs.Sets.{Set, Within, none, members}
+use Rattle.paper.specs.Sets.{Set, Within, none}
 use Rattle.paper.specs.Diagrams.{Diagram}
 use Rattle.paper.specs.Cuts.{setsOf}
 use Rattle.paper.specs.Order.{behind}
-use Rattle.paper.specs.Listing.{setBytes, fitting}
+use Rattle.paper.specs.Listing.{fitting, longestCut}
 use Rattle.paper.specs.Answers.{Beyond}
+use Rattle.paper.proofs.Longest.{set-long}
 use Rattle.algebra.proofs.Lists.{in-left, keep-in}
 use Rattle.algebra.proofs.Without.{sets-beyond}
 use Rattle.sets.specs.Words.{setOf}
-use Rattle.sets.proofs.Count.{count-le, cut-length}
 use Rattle.tables.specs.Table.{den}
 use Rattle.tables.specs.Lent.{Lent}
 use Rattle.tables.proofs.Lent.{root-ordered}
@@ -27,16 +27,12 @@ use Rattle.listing.proofs.Join.{fitting-split}
 
 -- ---- rooms that any set fits into are never too small
 
--- a set of n events has at most 2 n + 1 bytes
-set-size : (n : ℕ) (S : Set) → length (setBytes n S) ≤ 2 * n + 1
-set-size n S = let l = cut-length (members n S) in let k = count-le S n 0 in omega arith
-
-never-short : (n size : ℕ) (l : List Set) → 2 * n + 1 ≤ size → Short n size l → ⊥
+never-short : (n size : ℕ) (l : List Set) → longestCut n ≤ size → Short n size l → ⊥
 never-short n size [] h s = s
-never-short n size (S ∷ l) h s = let b = set-size n S in omega arith
+never-short n size (S ∷ l) h s = let b = set-long n S in omega arith
 
 pub serves : {n : ℕ} {T : List ℕ} {c root : ℕ} {begin : Bool} {ws room room′ : List ℕ} {number place count used : ℕ} {last : List ℕ} {finished : Bool}
-    → Answered n T c root begin ws room room′ number place count used last finished → Lent true n T c root → GoodStart n begin ws → 2 * n + 1 ≤ length room → number ≡ 0
+    → Answered n T c root begin ws room room′ number place count used last finished → Lent true n T c root → GoodStart n begin ws → longestCut n ≤ length room → number ≡ 0
 serves (Answered.no-diagram h x) v ok r = absurd (h v)
 serves (Answered.beyond w e p x) v ok r = absurd (ok e p)
 serves {n} {T} {c} {root} {begin} {ws} {room} (Answered.short w k s x) v ok r = absurd (never-short n (length room) (toList n (den T root) begin ws) r s)

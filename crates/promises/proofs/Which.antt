@@ -7,7 +7,7 @@ use Prim.Native.Nat.{ℕ}
 use native.Mathlib.Omega.{arith}
 use lib.ListN.{length, replicate}
 use Rattle.paper.specs.Limits.{limits}
-use Rattle.paper.specs.Answers.{NodesFull, FilledAt, CutsFull}
+use Rattle.paper.specs.Answers.{OfReading, NodesFull, FilledAt, CutsFull}
 use Rattle.algebra.proofs.Prefixes.{filled-full, full-filled}
 use Rattle.rules.specs.Answers.{verdict}
 use Rattle.records.specs.Judge.{refuse, outcome}
@@ -17,8 +17,8 @@ use Rattle.memory.specs.Memory.{Memory, Lengths, AllZero, capacity}
 use Rattle.memory.specs.Outcome.{Refused, at, Done}
 use Rattle.analyser.specs.Analysed.{Analysed}
 use Rattle.memory.specs.declared.Analysis.{Analysis}
-use Rattle.promises.specs.Reasons.{OneToEight, BadTree, Accepted, Long, TooManyNodes, FullAt, TooManyCuts}
-use Rattle.promises.proofs.Refusals.{refusal-range}
+use Rattle.promises.specs.Reasons.{BadTree, Accepted, Long, TooManyNodes, FullAt, TooManyCuts}
+use Rattle.promises.proofs.Refusals.{reading-some, reading-few, refusal-range}
 use Rattle.promises.proofs.Coincide.{same-answer, same-book, not-both, coincide, same-number, same-place}
 
 -- ---- an outcome for each refusal
@@ -53,29 +53,29 @@ all-zeroed m = record { nodes = refl; cuts = refl; gates = refl; added = refl; m
 -- ---- what a number says
 
 module _ {bytes : List ℕ} {m m′ : Memory} {a : Analysis} where
-  from-tree : Analysed bytes m m′ a → OneToEight (a .number) → BadTree bytes (a .number) (a .place)
+  from-tree : Analysed bytes m m′ a → OfReading (a .number) → BadTree bytes (a .number) (a .place)
   from-tree (Analysed.bad-tree w p r k) q = record { answer = w; refused = p; number-is = r .number; place-is = r .place }
-  from-tree (Analysed.bad-length b p n r k) q = absurd (let e = r .number in omega arith)
-  from-tree (Analysed.nodes-full b i p n f r k) q = absurd (let e = r .number in omega arith)
-  from-tree (Analysed.cuts-full b p n f g r k) q = absurd (let e = r .number in omega arith)
-  from-tree (Analysed.done b p n f g r) q = absurd (let e = r .number in omega arith)
+  from-tree (Analysed.bad-length b p n r k) q = absurd (let e = r .number in omega (arith, e, reading-few (a .number) q (omega (arith, e))))
+  from-tree (Analysed.nodes-full b i p n f r k) q = absurd (let e = r .number in omega (arith, e, reading-few (a .number) q (omega (arith, e))))
+  from-tree (Analysed.cuts-full b p n f g r k) q = absurd (let e = r .number in omega (arith, e, reading-few (a .number) q (omega (arith, e))))
+  from-tree (Analysed.done b p n f g r) q = absurd (reading-some (a .number) q (r .number))
 
   from-nine : Analysed bytes m m′ a → a .number ≡ 9 → (t : Accepted bytes) × (Long t m → ⊥)
-  from-nine (Analysed.bad-tree w p r k) q = absurd (let e = r .number in let (l, h) = refusal-range bytes w p in omega arith)
+  from-nine (Analysed.bad-tree w p r k) q = absurd (let e = r .number in omega (arith, e, q, reading-few (verdict w .number) (refusal-range bytes w p) (omega (arith, e, q))))
   from-nine (Analysed.bad-length b p n r k) q = (record { book = b; is = p }, n)
   from-nine (Analysed.nodes-full b i p n f r k) q = absurd (let e = r .number in omega arith)
   from-nine (Analysed.cuts-full b p n f g r k) q = absurd (let e = r .number in omega arith)
   from-nine (Analysed.done b p n f g r) q = absurd (let e = r .number in omega arith)
 
   from-ten : Analysed bytes m m′ a → a .number ≡ 10 → (t : Accepted bytes) × Long t m × FullAt t m (a .place)
-  from-ten (Analysed.bad-tree w p r k) q = absurd (let e = r .number in let (l, h) = refusal-range bytes w p in omega arith)
+  from-ten (Analysed.bad-tree w p r k) q = absurd (let e = r .number in omega (arith, e, q, reading-few (verdict w .number) (refusal-range bytes w p) (omega (arith, e, q))))
   from-ten (Analysed.bad-length b p n r k) q = absurd (let e = r .number in omega arith)
   from-ten (Analysed.nodes-full b i p n f r k) q = (record { book = b; is = p }, n, subst (λ g. FilledAt (treeOf b) (capacity (m .nodes)) g) (sym (r .place)) f)
   from-ten (Analysed.cuts-full b p n f g r k) q = absurd (let e = r .number in omega arith)
   from-ten (Analysed.done b p n f g r) q = absurd (let e = r .number in omega arith)
 
   from-eleven : Analysed bytes m m′ a → a .number ≡ 11 → (t : Accepted bytes) × Long t m × (TooManyNodes t m → ⊥) × TooManyCuts t m
-  from-eleven (Analysed.bad-tree w p r k) q = absurd (let e = r .number in let (l, h) = refusal-range bytes w p in omega arith)
+  from-eleven (Analysed.bad-tree w p r k) q = absurd (let e = r .number in omega (arith, e, q, reading-few (verdict w .number) (refusal-range bytes w p) (omega (arith, e, q))))
   from-eleven (Analysed.bad-length b p n r k) q = absurd (let e = r .number in omega arith)
   from-eleven (Analysed.nodes-full b i p n f r k) q = absurd (let e = r .number in omega arith)
   from-eleven (Analysed.cuts-full b p n f g r k) q = (record { book = b; is = p }, n, f, g)
@@ -83,7 +83,7 @@ module _ {bytes : List ℕ} {m m′ : Memory} {a : Analysis} where
 
   -- and a done analysis leaves its tables
   pub from-done : Analysed bytes m m′ a → a .number ≡ 0 → (t : Accepted bytes) × Long t m × (TooManyNodes t m → ⊥) × (TooManyCuts t m → ⊥) × Done (treeOf (t .book)) m m′ a
-  from-done (Analysed.bad-tree w p r k) q = absurd (let e = r .number in let (l, h) = refusal-range bytes w p in omega arith)
+  from-done (Analysed.bad-tree w p r k) q = absurd (reading-some (verdict w .number) (refusal-range bytes w p) (sym (r .number) ∙ q))
   from-done (Analysed.bad-length b p n r k) q = absurd (let e = r .number in omega arith)
   from-done (Analysed.nodes-full b i p n f r k) q = absurd (let e = r .number in omega arith)
   from-done (Analysed.cuts-full b p n f g r k) q = absurd (let e = r .number in omega arith)
@@ -111,12 +111,12 @@ module _ {bytes : List ℕ} {m m′ : Memory} {a : Analysis} (x : Analysed bytes
   unfolding answer
   is-so number place y = let c = coincide y x in (same-number c, same-place c)
 
-  -- 1 to 8 exactly when the bytes are refused, and then with their number and place
-  pub one-to-eight : OneToEight (a .number) ↔ BadTree bytes (a .number) (a .place)
-  one-to-eight = (from-tree x, λ b. subst OneToEight (sym (b .number-is)) (refusal-range bytes (b .answer) (b .refused)))
+  -- 1 to 8 or 21 exactly when the bytes are refused, and then with their number and place
+  pub of-reading : OfReading (a .number) ↔ BadTree bytes (a .number) (a .place)
+  of-reading = (from-tree x, λ b. subst OfReading (sym (b .number-is)) (refusal-range bytes (b .answer) (b .refused)))
 
   pub refused-so : (w : Answer) → outcome limits bytes ≡ refuse w → (a .number ≡ verdict w .number) × (a .place ≡ verdict w .place)
-  refused-so w p = let b = from-tree x (subst OneToEight (sym (is-number (verdict w .number) (verdict w .place) (Analysed.bad-tree w p (answers (verdict w .number) (verdict w .place)) refl))) (refusal-range bytes w p)) in
+  refused-so w p = let b = from-tree x (subst OfReading (sym (is-number (verdict w .number) (verdict w .place) (Analysed.bad-tree w p (answers (verdict w .number) (verdict w .place)) refl))) (refusal-range bytes w p)) in
       let e : b .answer ≡ w = same-answer bytes p (b .refused) in
       (b .number-is ∙ ap (λ y. verdict y .number) e, b .place-is ∙ ap (λ y. verdict y .place) e)
 

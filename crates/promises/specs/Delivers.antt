@@ -4,7 +4,7 @@ use mathlib.Core.Path.{_≡_}
 use mathlib.Core.Logic.{_≢_, _↔_}
 use mathlib.Core.Bool.{Bool, true, false}
 use mathlib.Core.List.{List}
-use Prim.Native.Nat.{ℕ, _+_, _-_, _*_, _≤_, _<_}
+use Prim.Native.Nat.{ℕ, _+_, _-_, _≤_, _<_}
 use lib.ListN.{length, getD}
 use Rattle.paper.specs.Limits.{billion}
 use Rattle.paper.specs.Lists.{In, Once, sum}
@@ -16,7 +16,7 @@ use Rattle.paper.specs.Nodes.{needed, nodesOf, nodesAdded}
 use Rattle.paper.specs.Diagrams.{eval}
 use Rattle.paper.specs.Cuts.{MinimalCut, setsOf, cutsNeeded}
 use Rattle.paper.specs.Order.{Sorted}
-use Rattle.paper.specs.Listing.{setsBytes}
+use Rattle.paper.specs.Listing.{setsBytes, longestCut}
 use Rattle.paper.specs.Chance.{total, Brackets}
 use Rattle.paper.specs.Answers.{cutNodesOf}
 use Rattle.tables.specs.Table.{den}
@@ -64,7 +64,7 @@ pub record Listed (t : Tree) (m : Memory) (a : Analysis) : Type 0 where
       → Answered (events t) (m .cuts) (a .«cut_nodes») (a .«cut_root») begin ws room room′ number place count used last finished → number ≢ 12
   pub answers : {begin : Bool} {ws room room′ : List ℕ} {number place count used : ℕ} {last : List ℕ} {finished : Bool}
       → Answered (events t) (m .cuts) (a .«cut_nodes») (a .«cut_root») begin ws room room′ number place count used last finished
-      → GoodStart (events t) begin ws → 2 * events t + 1 ≤ length room → number ≡ 0
+      → GoodStart (events t) begin ws → longestCut (events t) ≤ length room → number ≡ 0
   pub goes-on : {begin : Bool} {ws room room′ : List ℕ} {place count used : ℕ} {last : List ℕ} {finished : Bool}
       → Answered (events t) (m .cuts) (a .«cut_nodes») (a .«cut_root») begin ws room room′ 0 place count used last finished
       → GoodStart (events t) false last × (finished ≡ false → 0 < count)

@@ -4,4 +4,5 @@ pub mod Coincide
 pub mod Delivers
 pub mod Memo
 pub mod BySize
+pub mod Old
 pub mod Changed

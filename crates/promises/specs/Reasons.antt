@@ -2,7 +2,7 @@
 -- Assumes nothing.
 use mathlib.Core.Path.{_≡_}
 use mathlib.Core.List.{List}
-use Prim.Native.Nat.{ℕ, _≤_}
+use Prim.Native.Nat.{ℕ}
 use lib.ListN.{length}
 use Rattle.paper.specs.Limits.{limits}
 use Rattle.paper.specs.Answers.{NodesFull, FilledAt, CutsFull}
@@ -11,9 +11,6 @@ use Rattle.records.specs.Judge.{Book, accept, refuse, outcome}
 use Rattle.records.specs.Trees.{treeOf}
 use Rattle.rules.specs.declared.Answer.{Answer}
 use Rattle.memory.specs.Memory.{Memory, Lengths, capacity}
-
-abbrev pub OneToEight : ℕ → Type 0
-OneToEight k = (1 ≤ k) × (k ≤ 8)
 
 -- the bytes are refused with this number and place
 pub record BadTree (bytes : List ℕ) (number place : ℕ) : Type 0 where

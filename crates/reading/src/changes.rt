@@ -1,5 +1,6 @@
 // A tree changed in memory, also in ways that no bytes could, and written.
 use crate::say;
+use paper::GATES_FROM;
 use records::Event;
 use records::Tree;
 ghost use Prim.Native.Nat.{_≤_};
@@ -86,8 +87,10 @@ fn in_room(t: Tree, n: usize)
 
 fn counts(t: Tree) {
     let mut u = t;
-    u.event_count = 257;
-    tell(b"257 events", u);
+    u.event_count = 258;
+    tell(b"258 events, the last 255 unused", u);
+    u.event_count = 1025;
+    tell(b"1025 events", u);
     u.event_count = 18446744073709551615;
     tell(b"2^64 - 1 events", u);
     u.event_count = 0;
@@ -127,7 +130,7 @@ fn twins(t: Tree) {
     tell(b"gate 1 at least 2 of events 1, 2", u);
     u.inputs[3] = 1;
     tell(b"gate 1 at least 2 of events 1, 1", u);
-    u.inputs[3] = 256;
+    u.inputs[3] = GATES_FROM;
     tell(b"gate 1 at least 2 of event 1, gate 0", u);
     u.inputs[3] = 9;
     u.leasts[1] = 3;
@@ -139,16 +142,18 @@ fn inputs(t: Tree) {
     u.inputs[0] = 3;
     tell(b"input event 3", u);
     u.inputs[0] = 256;
+    tell(b"input event 256", u);
+    u.inputs[0] = GATES_FROM;
     tell(b"gate 0 in gate 0", u);
     u.inputs[0] = 1;
     tell(b"event 0 unused", u);
     let mut v = t;
-    v.inputs[4] = 257;
+    v.inputs[4] = GATES_FROM + 1;
     tell(b"gate 0 unused", v);
-    v.inputs[5] = 258;
+    v.inputs[5] = GATES_FROM + 2;
     tell(b"gate 2 in gate 2", v);
     v.inputs[5] = 65535;
-    tell(b"gate 65279 in gate 2", v);
+    tell(b"gate 64511 in gate 2", v);
     let mut x = t;
     x.events[1] = Event { chance: 1000000001 };
     tell(b"chance 1000000001", x);

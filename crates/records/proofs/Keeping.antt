@@ -1,7 +1,7 @@
 -- What holds of every book that a run comes to.
 -- Assumes nothing.
 use mathlib.Core.Path.{_≡_, refl, sym, ap, _∙_}
-use mathlib.Core.Bool.{false}
+use mathlib.Core.Bool.{true, false}
 use mathlib.Core.List.{List, [], _∷_}
 use Prim.Native.Nat.{ℕ, _+_, _-_, _*_, _≤_, _<_}
 use native.Mathlib.Omega.{arith}
@@ -10,10 +10,11 @@ use lib.Seq.{take-all}
 use lib.Dec.{ltb}
 use borrow.Author.Tests.{ltb-true, ltb-false, le-ltb}
 use borrow.Author.Count.{below-more}
-use Rattle.paper.specs.Limits.{limits, billion}
+use Rattle.paper.specs.Limits.{limits, wideFrom, billion}
 use Rattle.paper.specs.Lists.{sum}
 use Rattle.rules.specs.Choice.{if_then_else_}
 use Rattle.rules.specs.Format.{byte, recordOf, widthOf}
+use Rattle.rules.specs.Longest.{longestRun}
 use Rattle.paper.specs.Flat.{gatesFrom}
 use Rattle.rules.specs.Rules.{Fits}
 use Rattle.records.specs.Thresholds.{wrongAt}
@@ -21,7 +22,7 @@ use Rattle.records.specs.Judge.{Book, start, counts, _▷_, addEvent, ad
 use Rattle.records.specs.Memory.{noEvent}
 use Rattle.rules.specs.States.{Bounded}
 use Rattle.rules.specs.declared.format.Record.{Record}
-use Rattle.rules.specs.declared.format.Record.the-variants.{Missing, Unknown, Short, Event, Gate, EventInput, GateInput, End}
+use Rattle.rules.specs.declared.format.Record.the-variants.{Missing, Unknown, Short, Event, Gate, EventInput, GateInput, WideInput, End}
 use Rattle.rules.proofs.Cases.{if-elim, either, front, known, gate-small}
 use Rattle.records.proofs.Pad.{length-▷}
 use Rattle.rules.proofs.Steps.{OnEvent, OnGate, OnInput, IsInput, codeOf}
@@ -29,7 +30,7 @@ use Rattle.records.proofs.Sums.{old, new, all-▷, sum-▷, sum-old, su
 use Rattle.records.proofs.Starving.{inputs-more, sizes-more, by-last}
 
 -- a gate record that was read is of a gate's kind
-gate-kind : (l : List ℕ) {kind k n : ℕ} → recordOf l ≡ Gate kind k n → (2 ≤ kind) × (kind ≤ 4)
+gate-kind : (l : List ℕ) {kind k n : ℕ} → recordOf true l ≡ Gate kind k n → (2 ≤ kind) × (kind ≤ 4)
 gate-kind l {kind} {k} {n} =
     let P : Record → Type 0 = λ r. r ≡ Gate kind k n → (2 ≤ kind) × (kind ≤ 4) in
     let never : _≡_ {A = ℕ} 0 1 → (2 ≤ kind) × (kind ≤ 4) = λ z. absurd (omega arith) in
@@ -43,10 +44,11 @@ gate-kind l {kind} {k} {n} =
     (λ p. never (cc))
     (λ p. never (cc))
     (λ p. never (cc))
+    (λ p. never (cc))
     (byte l 0) some)
 
 -- and, or have no k of their own
-gate-plain : (l : List ℕ) {kind k n : ℕ} → recordOf l ≡ Gate kind k n → (kind ≡ 4 → ⊥) → k ≡ 0
+gate-plain : (l : List ℕ) {kind k n : ℕ} → recordOf true l ≡ Gate kind k n → (kind ≡ 4 → ⊥) → k ≡ 0
 gate-plain l {kind} {k} {n} =
     let P : Record → Type 0 = λ r. r ≡ Gate kind k n → (kind ≡ 4 → ⊥) → k ≡ 0 in
     let never : _≡_ {A = ℕ} 0 1 → (kind ≡ 4 → ⊥) → k ≡ 0 = λ z. absurd (omega arith) in
@@ -59,18 +61,20 @@ gate-plain l {kind} {k} {n} =
     (λ p. never (cc))
     (λ p. never (cc))
     (λ p. never (cc))
+    (λ p. never (cc))
     (byte l 0) some)
 
--- an event's input takes a byte less than a gate's
-input-width : (r : Record) → IsInput r → widthOf r + (if ltb (codeOf r) gatesFrom then 1 else 0) ≤ 3
-input-width Missing h = absurd h
-input-width Unknown h = absurd h
-input-width Short h = absurd h
-input-width (Event c) h = absurd h
-input-width (Gate kind k n) h = absurd h
-input-width (EventInput e) h = if-elim (λ (k : ℕ). 2 + k ≤ 3) (ltb e gatesFrom) (λ _. omega arith) (λ _. omega arith)
-input-width (GateInput g) h = rw (le-ltb (gatesFrom + g) gatesFrom (omega arith)) (omega arith)
-input-width End h = absurd h
+-- an input that one byte names takes a byte less than the others
+input-width : (n : ℕ) (r : Record) → IsInput n r → widthOf r + (if ltb (codeOf r) wideFrom then 1 else 0) ≤ 3
+input-width n Missing h = absurd h
+input-width n Unknown h = absurd h
+input-width n Short h = absurd h
+input-width n (Event c) h = absurd h
+input-width n (Gate kind k m) h = absurd h
+input-width n (EventInput e) h = if-elim (λ (k : ℕ). 2 + k ≤ 3) (ltb e wideFrom) (λ _. omega arith) (λ _. omega arith)
+input-width n (GateInput g) h = rw (le-ltb (gatesFrom + g) wideFrom (omega arith)) (omega arith)
+input-width n (WideInput e) h = rw (le-ltb e wideFrom (h .0)) (omega arith)
+input-width n End h = absurd h
 
 pub record Kept (b : Book) : Type 0 where
   pub fewEvents : length (b .events) ≤ limits .events
@@ -82,7 +86,7 @@ pub record Kept (b : Book) : Type 0 where
   pub wanted : sum (b .sizes) ≡ length (b .inputs) + b .left
   -- the gates before the last have their inputs
   pub last : sum (take (length (b .sizes) - 1) (b .sizes)) ≤ length (b .inputs)
-  pub low : b .at + belows gatesFrom (b .inputs) ≤ 5 * length (b .events) + 3 * length (b .sizes) + 3 * length (b .inputs)
+  pub low : b .at + belows wideFrom (b .inputs) ≤ 5 * length (b .events) + 3 * length (b .sizes) + 3 * length (b .inputs)
   pub chances : (e : ℕ) → e < length (b .events) → getD (b .events) e noEvent .chance ≤ billion
   pub kinds : (g : ℕ) → g < length (b .kinds) → (2 ≤ getD (b .kinds) g 0) × (getD (b .kinds) g 0 ≤ 4)
   pub sizes : (g : ℕ) → g < length (b .sizes) → (1 ≤ getD (b .sizes) g 0) × (getD (b .sizes) g 0 ≤ limits .inputs)
@@ -118,7 +122,7 @@ module _ {b : Book} (v : Kept b) where
   kept-bounded = record { events = v .fewEvents; gates = v .fewGates; inputs = v .fewInputs }
 
   -- a place of the reading is far below the highest number
-  pub kept-near : b .at ≤ 15104
+  pub kept-near : b .at ≤ longestRun
   kept-near = omega (arith, v .low, v .fewEvents, v .fewGates, v .fewInputs)
 
   module _ {len : ℕ} {r : Record} where
@@ -144,7 +148,7 @@ module _ {b : Book} (v : Kept b) where
           fits = λ g h i j k. absurd (omega arith);
         }
 
-    pub kept-gate : (l : List ℕ) → recordOf l ≡ r → {kind k n next : ℕ} → OnGate len (counts b) r kind k n next → Kept (addGate b kind k n next)
+    pub kept-gate : (l : List ℕ) → recordOf true l ≡ r → {kind k n next : ℕ} → OnGate len (counts b) r kind k n next → Kept (addGate b kind k n next)
     kept-gate l decoded {kind} {k} {n} {next} on =
         let G : ℕ = length (b .sizes) in
         let three : widthOf r ≤ 3 = rw (on .shape) (gate-small kind k n .1) in
@@ -187,7 +191,7 @@ module _ {b : Book} (v : Kept b) where
     pub kept-input : {i next : ℕ} → OnInput len (counts b) r i next → starved (addInput b i next) ≡ false → Kept (addInput b i next)
     kept-input {i} {next} on fed =
         let N : ℕ = length (b .inputs) in
-        let wide : widthOf r + (if ltb i gatesFrom then 1 else 0) ≤ 3 = rw (on .code) at (input-width r (on .input)) in
+        let wide : widthOf r + (if ltb i wideFrom then 1 else 0) ≤ 3 = rw (on .code) at (input-width (length (b .events)) r (on .input)) in
         record {
           fewEvents = v .fewEvents;
           fewGates = v .fewGates;

@@ -7,10 +7,10 @@ use Prim.Native.Nat.{ℕ, zero, suc, _+_, _-_, _≤_, _<_}
 use native.Mathlib.Numerals.{add-one}
 use native.Mathlib.Omega.{arith}
 use lib.ListN.{length, drop}
-use Rattle.paper.specs.Limits.{limits}
+use Rattle.paper.specs.Limits.{Limits, limits}
 use Rattle.rules.specs.Format.{recordOf}
 use Rattle.rules.specs.Rules.{stepOf}
-use Rattle.records.specs.Judge.{Book, start, counts, addEvent, addGate, addInput, starved, lastPlace, thresholdStep, nextStep, accept, refuse, unusedBy, closeOf, run, outcome}
+use Rattle.records.specs.Judge.{Book, start, counts, addEvent, addGate, addInput, starved, lastPlace, thresholdStep, nextStep, Outcome, accept, refuse, unusedBy, closeOf, run, outcome}
 use Rattle.rules.specs.States.{pastEvent, pastGate, pastInput, Bounded}
 use Rattle.rules.specs.declared.Answer.{Answer}
 use Rattle.rules.specs.declared.Answer.the-variants.{Threshold, Unused}
@@ -24,27 +24,37 @@ use Rattle.records.proofs.Keeping.{Kept, kept-start, kept-event, kept-g
 use Rattle.records.proofs.Pad.{length-▷}
 use Rattle.records.proofs.Starving.{threshold-elim, threshold-fed}
 
--- what a step does to the run
+-- what a step leads to, at any limits
+abbrev pub onward : Limits → ℕ → List ℕ → Book → Step → Outcome
+onward L turns bytes b (AddEvent c next) = run L turns bytes (addEvent b c next)
+onward L turns bytes b (AddGate kind k n next) = run L turns bytes (addGate b kind k n next)
+onward L turns bytes b (AddInput i next) = run L turns bytes (addInput b i next)
+onward L turns bytes b Close = closeOf b
+onward L turns bytes b (Refused a) = refuse a
+
+pub run-step : (L : Limits) (turns : ℕ) (bytes : List ℕ) (b : Book) (x : Step) → nextStep L bytes b ≡ x → run L (suc turns) bytes b ≡ onward L turns bytes b x
+unfolding run
+run-step L turns bytes b (AddEvent c next) e = rw (e, run)
+run-step L turns bytes b (AddGate kind k n next) e = rw (e, run)
+run-step L turns bytes b (AddInput i next) e = rw (e, run)
+run-step L turns bytes b Close e = rw (e, run)
+run-step L turns bytes b (Refused a) e = rw (e, run)
+
 module _ (turns : ℕ) (bytes : List ℕ) (b : Book) where
   pub run-event : (c next : ℕ) → nextStep limits bytes b ≡ AddEvent c next → run limits (suc turns) bytes b ≡ run limits turns bytes (addEvent b c next)
-  unfolding run
-  run-event c next e = rw (e, run)
+  run-event c next e = run-step limits turns bytes b (AddEvent c next) e
 
   pub run-gate : (kind k n next : ℕ) → nextStep limits bytes b ≡ AddGate kind k n next → run limits (suc turns) bytes b ≡ run limits turns bytes (addGate b kind k n next)
-  unfolding run
-  run-gate kind k n next e = rw (e, run)
+  run-gate kind k n next e = run-step limits turns bytes b (AddGate kind k n next) e
 
   pub run-input : (i next : ℕ) → nextStep limits bytes b ≡ AddInput i next → run limits (suc turns) bytes b ≡ run limits turns bytes (addInput b i next)
-  unfolding run
-  run-input i next e = rw (e, run)
+  run-input i next e = run-step limits turns bytes b (AddInput i next) e
 
   pub run-close : nextStep limits bytes b ≡ Close → run limits (suc turns) bytes b ≡ closeOf b
-  unfolding run
-  run-close e = rw (e, run)
+  run-close e = run-step limits turns bytes b Close e
 
   pub run-refused : (a : Answer) → nextStep limits bytes b ≡ Refused a → run limits (suc turns) bytes b ≡ refuse a
-  unfolding run
-  run-refused a e = rw (e, run)
+  run-refused a e = run-step limits turns bytes b (Refused a) e
 
 pub record Running (bytes : List ℕ) (s : State) : Type 0 where
   pub book : Book
@@ -74,7 +84,7 @@ module _ {bytes : List ℕ} {s : State} (v : Running bytes s) where
   unfolding nextStep
   step-is e = ap (thresholdStep (v .book)) (sym (e ∙ ap (stepOf limits bytes) (v .state)))
 
-  pub running-sound : {r : Step} → r ≡ stepOf limits bytes s → Sound (length bytes) s (recordOf (drop (s .at) bytes)) r
+  pub running-sound : {r : Step} → r ≡ stepOf limits bytes s → Sound (length bytes) s (recordOf true (drop (s .at) bytes)) r
   running-sound e = rw e (sound-step bytes s (v .within))
 
   unfoldable pub running-event : (c next : ℕ) → AddEvent c next ≡ stepOf limits bytes s
@@ -139,10 +149,10 @@ module _ {bytes : List ℕ} {s : State} (v : Running bytes s) where
 -- ---- a run to its end
 
 -- what the next record does to a book is what the rules let it do
-pub sound-next : (bytes : List ℕ) (b : Book) → b .at ≤ length bytes → Sound (length bytes) (counts b) (recordOf (drop (b .at) bytes)) (nextStep limits bytes b)
+pub sound-next : (bytes : List ℕ) (b : Book) → b .at ≤ length bytes → Sound (length bytes) (counts b) (recordOf true (drop (b .at) bytes)) (nextStep limits bytes b)
 unfolding nextStep
 sound-next bytes b h =
-    threshold-elim b (Sound (length bytes) (counts b) (recordOf (drop (b .at) bytes))) (λ p q. let z : _≡_ {A = ℕ} 0 1 = cc in omega arith)
+    threshold-elim b (Sound (length bytes) (counts b) (recordOf true (drop (b .at) bytes))) (λ p q. let z : _≡_ {A = ℕ} 0 1 = cc in omega arith)
     (stepOf limits bytes (counts b)) (sound-step bytes (counts b) h)
 
 pub next-fed : (bytes : List ℕ) (b : Book) {i next : ℕ} → nextStep limits bytes b ≡ AddInput i next → starved (addInput b i next) ≡ false
@@ -169,22 +179,22 @@ close-none b b′ e = go (unusedBy b) refl
 pub record Closed (bytes : List ℕ) (P : Book → Type 0) (b : Book) : Type 0 where
   pub kept : Kept b
   pub used : unusedBy b ≡ Nothing
-  pub close : OnClose (length bytes) (counts b) (recordOf (drop (b .at) bytes))
+  pub close : OnClose (length bytes) (counts b) (recordOf true (drop (b .at) bytes))
   pub holds : P b
 
 -- what holds at the start, and past each record, holds of a book that is accepted
 module _
     (bytes : List ℕ)
     (P : Book → Type 0)
-    (event : (b : Book) (c next : ℕ) → Kept b → P b → OnEvent (length bytes) (counts b) (recordOf (drop (b .at) bytes)) c next → P (addEvent b c next))
-    (gate : (b : Book) (kind k n next : ℕ) → Kept b → P b → OnGate (length bytes) (counts b) (recordOf (drop (b .at) bytes)) kind k n next → P (addGate b kind k n next))
-    (input : (b : Book) (i next : ℕ) → Kept b → P b → OnInput (length bytes) (counts b) (recordOf (drop (b .at) bytes)) i next → P (addInput b i next))
+    (event : (b : Book) (c next : ℕ) → Kept b → P b → OnEvent (length bytes) (counts b) (recordOf true (drop (b .at) bytes)) c next → P (addEvent b c next))
+    (gate : (b : Book) (kind k n next : ℕ) → Kept b → P b → OnGate (length bytes) (counts b) (recordOf true (drop (b .at) bytes)) kind k n next → P (addGate b kind k n next))
+    (input : (b : Book) (i next : ℕ) → Kept b → P b → OnInput (length bytes) (counts b) (recordOf true (drop (b .at) bytes)) i next → P (addInput b i next))
     (b′ : Book)
   where
     along-step : (turns : ℕ) (b : Book) → Kept b → P b
         → ((x : Book) → Kept x → P x → x .at ≤ length bytes → run limits turns bytes x ≡ accept b′ → Closed bytes P b′)
         → run limits (suc turns) bytes b ≡ accept b′ → (x : Step) → nextStep limits bytes b ≡ x
-        → Sound (length bytes) (counts b) (recordOf (drop (b .at) bytes)) x → Closed bytes P b′
+        → Sound (length bytes) (counts b) (recordOf true (drop (b .at) bytes)) x → Closed bytes P b′
     along-step turns b k p on e (AddEvent c next) q s =
         on (addEvent b c next) (kept-event k s) (event b c next k p s) (s .inside) (sym (run-event turns bytes b c next q) ∙ e)
     along-step turns b k p on e (AddGate kind least n next) q s =

@@ -1,21 +1,22 @@
 -- What a step tells of the state that it was taken in, and of the record.
 -- Assumes nothing.
 use mathlib.Core.Path.{_≡_, refl, ap}
+use mathlib.Core.Bool.{true}
 use mathlib.Core.List.{List}
 use Prim.Native.Nat.{ℕ, _+_, _-_, _≤_, _<_}
 use native.Mathlib.Omega.{arith}
 use lib.ListN.{length, drop, length-drop}
 use lib.Dec.{ltb, leb, eqb}
 use borrow.Author.Tests.{ltb-false, leb-false, eqb-false}
-use Rattle.paper.specs.Limits.{limits, billion}
+use Rattle.paper.specs.Limits.{limits, wideFrom, billion}
 use Rattle.rules.specs.Answers.{verdict}
 use Rattle.rules.specs.Format.{recordOf, widthOf}
 use Rattle.paper.specs.Flat.{gatesFrom}
-use Rattle.rules.specs.Rules.{eventStep, gateStep, eventInputStep, gateInputStep, endStep, admitOf, stepOf, Fits}
+use Rattle.rules.specs.Rules.{eventStep, gateStep, eventInputStep, gateInputStep, wideInputStep, endStep, admitOf, stepOf, Fits}
 use Rattle.rules.specs.declared.Answer.{Answer}
 use Rattle.rules.specs.declared.Answer.the-variants.{Done}
 use Rattle.rules.specs.declared.format.Record.{Record}
-use Rattle.rules.specs.declared.format.Record.the-variants.{Missing, Unknown, Short, Event, Gate, EventInput, GateInput, End}
+use Rattle.rules.specs.declared.format.Record.the-variants.{Missing, Unknown, Short, Event, Gate, EventInput, GateInput, WideInput, End}
 use Rattle.rules.specs.declared.judge.State.{State}
 use Rattle.rules.specs.declared.judge.Step.{Step}
 use Rattle.rules.specs.declared.judge.Step.the-variants.{AddEvent, AddGate, AddInput, Close, Refused}
@@ -30,28 +31,31 @@ codeOf (Event c) = 0
 codeOf (Gate kind k n) = 0
 codeOf (EventInput e) = e
 codeOf (GateInput g) = gatesFrom + g
+codeOf (WideInput e) = e
 codeOf End = 0
 
--- a record that is an input
-abbrev pub IsInput : Record → Type 0
-IsInput Missing = ⊥
-IsInput Unknown = ⊥
-IsInput Short = ⊥
-IsInput (Event c) = ⊥
-IsInput (Gate kind k n) = ⊥
-IsInput (EventInput e) = Unit {0}
-IsInput (GateInput g) = Unit {0}
-IsInput End = ⊥
+-- a record that is an input in a tree of n events: an event that is there, by two bytes only where one does not name it; or a gate
+abbrev pub IsInput : ℕ → Record → Type 0
+IsInput n Missing = ⊥
+IsInput n Unknown = ⊥
+IsInput n Short = ⊥
+IsInput n (Event c) = ⊥
+IsInput n (Gate kind k m) = ⊥
+IsInput n (EventInput e) = e < n
+IsInput n (GateInput g) = Unit {0}
+IsInput n (WideInput e) = (wideFrom ≤ e) × (e < n)
+IsInput n End = ⊥
 
-pub input-small : (r : Record) → IsInput r → (1 ≤ widthOf r) × (widthOf r ≤ 3)
-input-small Missing h = absurd h
-input-small Unknown h = absurd h
-input-small Short h = absurd h
-input-small (Event c) h = absurd h
-input-small (Gate kind k n) h = absurd h
-input-small (EventInput e) h = (omega arith, omega arith)
-input-small (GateInput g) h = (omega arith, omega arith)
-input-small End h = absurd h
+pub input-small : (n : ℕ) (r : Record) → IsInput n r → (1 ≤ widthOf r) × (widthOf r ≤ 3)
+input-small n Missing h = absurd h
+input-small n Unknown h = absurd h
+input-small n Short h = absurd h
+input-small n (Event c) h = absurd h
+input-small n (Gate kind k m) h = absurd h
+input-small n (EventInput e) h = (omega arith, omega arith)
+input-small n (GateInput g) h = (omega arith, omega arith)
+input-small n (WideInput e) h = (omega arith, omega arith)
+input-small n End h = absurd h
 
 pub record OnEvent (len : ℕ) (s : State) (r : Record) (c next : ℕ) : Type 0 where
   pub further : s .at < next
@@ -79,7 +83,7 @@ pub record OnInput (len : ℕ) (s : State) (r : Record) (i next : ℕ) : Type 0 
   pub some : 0 < s .left
   pub place : next ≡ s .at + widthOf r
   pub code : codeOf r ≡ i
-  pub input : IsInput r
+  pub input : IsInput (s .events) r
   pub fits : s .events ≤ gatesFrom → Fits (s .events) (s .gates - 1) i
 
 pub record OnClose (len : ℕ) (s : State) (r : Record) : Type 0 where
@@ -148,7 +152,7 @@ module _ (len : ℕ) (s : State) where
         some = omega (arith, eqb-false (s .left) 0 e);
         place = refl;
         code = refl;
-        input = tt;
+        input = leb-false (s .events) i d;
         fits = λ few. record { below = omega (arith, leb-false (s .events) i d); event = λ _. leb-false (s .events) i d };
       }))
 
@@ -166,6 +170,22 @@ module _ (len : ℕ) (s : State) where
         input = tt;
         fits = λ few. record { below = omega (arith, leb-false (s .gates) (g + 1) d); event = λ low. absurd (omega arith) };
       }))
+
+  sound-wide-input : (i : ℕ) → s .at + 3 ≤ len → Sound len s (WideInput i) (wideInputStep s (s .at + 3) i)
+  sound-wide-input i h =
+      let P : Step → Type 0 = Sound len s (WideInput i) in
+      if-elim P (eqb (s .left) 0) (λ _. refusal (omega arith))
+      (λ e. if-elim P (ltb i wideFrom) (λ _. refusal (omega arith))
+      (λ w. if-elim P (leb (s .events) i) (λ _. refusal (omega arith))
+      (λ d. record {
+        further = omega arith;
+        inside = h;
+        some = omega (arith, eqb-false (s .left) 0 e);
+        place = refl;
+        code = refl;
+        input = (ltb-false i wideFrom w, leb-false (s .events) i d);
+        fits = λ few. record { below = omega (arith, leb-false (s .events) i d); event = λ _. leb-false (s .events) i d };
+      })))
 
   sound-end : Sound len s End (endStep len s (s .at + 1))
   sound-end =
@@ -190,10 +210,11 @@ module _ (len : ℕ) (s : State) where
   sound (Gate kind k n) h = sound-gate kind k n h
   sound (EventInput e) h = sound-event-input e h
   sound (GateInput g) h = sound-gate-input g h
+  sound (WideInput e) h = sound-wide-input e h
   sound End h = sound-end
 
 pub sound-step : (bytes : List ℕ) (s : State) → s .at ≤ length bytes
-    → Sound (length bytes) s (recordOf (drop (s .at) bytes)) (stepOf limits bytes s)
+    → Sound (length bytes) s (recordOf true (drop (s .at) bytes)) (stepOf limits bytes s)
 unfolding stepOf
 sound-step bytes s h =
-    sound (length bytes) s (recordOf (drop (s .at) bytes)) (omega (arith, width-le (drop (s .at) bytes), length-drop (s .at) bytes))
+    sound (length bytes) s (recordOf true (drop (s .at) bytes)) (omega (arith, width-le (drop (s .at) bytes), length-drop (s .at) bytes))

@@ -1,11 +1,12 @@
 -- The records of a tree: what record stands at the front of some bytes, and a record's bytes.
 use Prim.Native.Nat.{ℕ, _+_, _*_, _/_, _%_}
 use mathlib.Core.List.{List, [], _∷_}
+use mathlib.Core.Bool.{Bool}
 use lib.ListN.{length, getD}
 use lib.Dec.{ltb, eqb}
 use Rattle.rules.specs.Choice.{if_then_else_}
 use Rattle.rules.specs.declared.format.Record.{Record}
-use Rattle.rules.specs.declared.format.Record.the-variants.{Missing, Unknown, Short, Event, Gate, EventInput, GateInput, End}
+use Rattle.rules.specs.declared.format.Record.the-variants.{Missing, Unknown, Short, Event, Gate, EventInput, GateInput, WideInput, End}
 
 -- byte i of b
 abbrev pub byte : List ℕ → ℕ → ℕ
@@ -21,7 +22,12 @@ lengthOf kind =
     if eqb kind 5 then 2 else
     if eqb kind 6 then 3 else
     if eqb kind 7 then 1 else
+    if eqb kind 8 then 3 else
     0
+
+-- the same in a reading that knows kind 8, and in one that does not
+abbrev pub lengthIn : Bool → ℕ → ℕ
+lengthIn wide kind = if wide then lengthOf kind else (if eqb kind 8 then 0 else lengthOf kind)
 
 -- the record of a kind, from its bytes
 unfoldable pub bodyOf : ℕ → List ℕ → Record
@@ -32,13 +38,14 @@ bodyOf kind b =
     if eqb kind 4 then Gate 4 (byte b 1) (byte b 2) else
     if eqb kind 5 then EventInput (byte b 1) else
     if eqb kind 6 then GateInput (byte b 1 + 256 * byte b 2) else
+    if eqb kind 8 then WideInput (byte b 1 + 256 * byte b 2) else
     End
 
--- the record at the front of b: an unknown kind (2) comes before bytes that end inside the record (1)
-unfoldable pub recordOf : List ℕ → Record
-recordOf b =
+-- the record at the front of b, with kind 8 or without: an unknown kind (2) comes before bytes that end inside the record (1)
+unfoldable pub recordOf : Bool → List ℕ → Record
+recordOf wide b =
     if eqb (length b) 0 then Missing else
-    if eqb (lengthOf (byte b 0)) 0 then Unknown else
+    if eqb (lengthIn wide (byte b 0)) 0 then Unknown else
     if ltb (length b) (lengthOf (byte b 0)) then Short else
     bodyOf (byte b 0) b
 
@@ -51,6 +58,7 @@ widthOf (Event c) = lengthOf 1
 widthOf (Gate kind k n) = if eqb kind 4 then lengthOf 4 else lengthOf 2
 widthOf (EventInput e) = lengthOf 5
 widthOf (GateInput g) = lengthOf 6
+widthOf (WideInput e) = lengthOf 8
 widthOf End = lengthOf 7
 
 -- the bytes of a record; of a gate of no kind, a byte of no kind
@@ -62,4 +70,5 @@ encode (Event c) = 1 ∷ c % 256 ∷ c / 256 % 256 ∷ c / 65536 % 256 ∷ c / 1
 encode (Gate kind k n) = if eqb kind 4 then (4 ∷ k ∷ n ∷ []) else (kind ∷ n ∷ [])
 encode (EventInput e) = 5 ∷ e ∷ []
 encode (GateInput g) = 6 ∷ g % 256 ∷ g / 256 ∷ []
+encode (WideInput e) = 8 ∷ e % 256 ∷ e / 256 ∷ []
 encode End = 7 ∷ []

@@ -1,16 +1,16 @@
--- What a record does at a place of the reading: the paper's numbers 1 to 7 but 5, in their order. The limits are parameters.
+-- What a record does at a place of the reading: the paper's numbers 1 to 7 but 5, and 21, in their order. The limits are parameters.
 use Prim.Native.Nat.{ℕ, _+_, _<_}
 use mathlib.Core.Bool.{Bool, true, false}
 use mathlib.Core.List.{List}
 use lib.ListN.{length, drop}
 use lib.Dec.{ltb, leb, eqb}
-use Rattle.paper.specs.Limits.{Limits, billion}
+use Rattle.paper.specs.Limits.{Limits, wideFrom, billion}
 use Rattle.rules.specs.Choice.{if_then_else_}
 use Rattle.rules.specs.Format.{recordOf, widthOf}
 use Rattle.paper.specs.Flat.{gatesFrom}
-use Rattle.rules.specs.declared.Answer.the-variants.{Cut, UnknownKind, OutOfPlace, Count, Reference, Chance}
+use Rattle.rules.specs.declared.Answer.the-variants.{Cut, UnknownKind, OutOfPlace, Count, Reference, Chance, Narrow}
 use Rattle.rules.specs.declared.format.Record.{Record}
-use Rattle.rules.specs.declared.format.Record.the-variants.{Missing, Unknown, Short, Event, Gate, EventInput, GateInput, End}
+use Rattle.rules.specs.declared.format.Record.the-variants.{Missing, Unknown, Short, Event, Gate, EventInput, GateInput, WideInput, End}
 use Rattle.rules.specs.declared.judge.State.{State}
 use Rattle.rules.specs.declared.judge.Step.{Step}
 use Rattle.rules.specs.declared.judge.Step.the-variants.{AddEvent, AddGate, AddInput, Close, Refused}
@@ -42,6 +42,14 @@ eventInputStep s after e =
     if leb (s .events) e then Refused (Reference (s .at)) else
     AddInput e after
 
+-- an event that two bytes name, where one is enough, is 21, whether the event is there or not
+abbrev pub wideInputStep : State → ℕ → ℕ → Step
+wideInputStep s after e =
+    if eqb (s .left) 0 then Refused (OutOfPlace (s .at)) else
+    if ltb e wideFrom then Refused (Narrow (s .at)) else
+    if leb (s .events) e then Refused (Reference (s .at)) else
+    AddInput e after
+
 abbrev pub gateInputStep : State → ℕ → ℕ → Step
 gateInputStep s after g =
     if eqb (s .left) 0 then Refused (OutOfPlace (s .at)) else
@@ -70,7 +78,8 @@ admitOf L len s (Event c) = eventStep L s (s .at + widthOf (Event c)) c
 admitOf L len s (Gate kind k n) = gateStep L s (s .at + widthOf (Gate kind k n)) kind k n
 admitOf L len s (EventInput e) = eventInputStep s (s .at + widthOf (EventInput e)) e
 admitOf L len s (GateInput g) = gateInputStep s (s .at + widthOf (GateInput g)) g
+admitOf L len s (WideInput e) = wideInputStep s (s .at + widthOf (WideInput e)) e
 admitOf L len s End = endStep len s (s .at + widthOf End)
 
 unfoldable pub stepOf : Limits → List ℕ → State → Step
-stepOf L bytes s = admitOf L (length bytes) s (recordOf (drop (s .at) bytes))
+stepOf L bytes s = admitOf L (length bytes) s (recordOf (L .wide) (drop (s .at) bytes))

@@ -1,5 +1,6 @@
 // The records of a tree: what stands at the front of some bytes.
 ghost use mathlib.Core.Path.{_≡_};
+ghost use mathlib.Core.Bool.{true};
 ghost use Prim.Native.Nat.{_+_, _*_};
 ghost use Rattle.rules.specs.Format.{lengthOf, recordOf, widthOf};
 
@@ -16,6 +17,8 @@ pub enum Record {
     Gate(u8, u8, u8),
     EventInput(u8),
     GateInput(u16),
+    // An event whose number takes two bytes.
+    WideInput(u16),
     End,
 }
 
@@ -31,6 +34,7 @@ pub fn length(kind: u8) -> usize
         5 => 2,
         6 => 3,
         7 => 1,
+        8 => 3,
         _ => 0,
     }
 }
@@ -49,6 +53,7 @@ pub fn width(r: Record) -> usize
         }
         Record::EventInput(_) => length(5),
         Record::GateInput(_) => length(6),
+        Record::WideInput(_) => length(8),
         Record::End => length(7),
         Record::Missing => 0,
         Record::Short => 0,
@@ -71,7 +76,7 @@ fn four(a: u8, b: u8, c: u8, d: u8) -> u32
 
 // The record at the front of b.
 pub fn decode(b: &[u8]) -> Record
-    ensures { λ r. ⌜ r ≡ recordOf (now (b .entry)) ⌝ }
+    ensures { λ r. ⌜ r ≡ recordOf true (now (b .entry)) ⌝ }
 {
     if b.len() == 0 {
         return Record::Missing;
@@ -91,6 +96,7 @@ pub fn decode(b: &[u8]) -> Record
         4 => Record::Gate(4, b[1], b[2]),
         5 => Record::EventInput(b[1]),
         6 => Record::GateInput(two(b[1], b[2])),
+        8 => Record::WideInput(two(b[1], b[2])),
         _ => Record::End,
     }
 }

@@ -1,4 +1,4 @@
-// What a record does at a place of the reading: the paper's numbers 1 to 7 but 5, which waits for the gate's inputs.
+// What a record does at a place of the reading: the paper's numbers 1 to 7 but 5, which waits for the gate's inputs, and 21.
 use crate::Answer;
 use crate::format::Record;
 use crate::format::decode;
@@ -9,13 +9,14 @@ use paper::GATES;
 use paper::GATES_FROM;
 use paper::IN_ALL;
 use paper::INPUTS;
+use paper::WIDE_FROM;
 ghost use mathlib.Core.Path.{_≡_};
 ghost use Prim.Native.Nat.{_+_, _≤_, _<_};
 ghost use lib.ListN.{length};
 ghost use Rattle.paper.specs.Limits.{limits};
 ghost use Rattle.rules.specs.Format.{widthOf};
 ghost use Rattle.rules.specs.States.{begun, pastEvent, pastGate, pastInput, Bounded};
-ghost use Rattle.rules.specs.Rules.{wrongK, eventStep, gateStep, eventInputStep, gateInputStep, endStep, admitOf, stepOf};
+ghost use Rattle.rules.specs.Rules.{wrongK, eventStep, gateStep, eventInputStep, gateInputStep, wideInputStep, endStep, admitOf, stepOf};
 
 // Where the reading stands: the place of the next record, the numbers of events, of gates and of inputs so far, and how
 // many inputs the last gate still wants.
@@ -166,6 +167,21 @@ fn admit_gate_input(s: State, after: usize, g: u16) -> Step
     Step::AddInput(GATES_FROM + g, after)
 }
 
+fn admit_wide_input(s: State, after: usize, e: u16) -> Step
+    ensures { λ r. ⌜ r ≡ wideInputStep s after e ⌝ }
+{
+    if s.left == 0 {
+        return Step::Refused(Answer::OutOfPlace(s.at));
+    }
+    if e < WIDE_FROM {
+        return Step::Refused(Answer::Narrow(s.at));
+    }
+    if s.events <= (e as usize) {
+        return Step::Refused(Answer::Reference(s.at));
+    }
+    Step::AddInput(e, after)
+}
+
 fn admit_end(s: State, after: usize, len: usize) -> Step
     ensures { λ r. ⌜ r ≡ endStep len s after ⌝ }
 {
@@ -198,6 +214,7 @@ pub fn admit(s: State, len: usize, r: Record) -> Step
         Record::Gate(kind, k, n) => admit_gate(s, after, kind, k, n),
         Record::EventInput(e) => admit_event_input(s, after, e),
         Record::GateInput(g) => admit_gate_input(s, after, g),
+        Record::WideInput(e) => admit_wide_input(s, after, e),
         Record::End => admit_end(s, after, len),
     }
 }

@@ -1,6 +1,6 @@
 // The rules of single records: what a record is, and what it does at a place of the reading.
 pub mod format; // the records: what stands at the front of some bytes
-pub mod judge; // what a record does at a place of the reading: numbers 1 to 7 but 5
+pub mod judge; // what a record does at a place of the reading: numbers 1 to 7 but 5, and 21
 
 ghost use mathlib.Core.Path.{_≡_};
 ghost use Rattle.rules.specs.Answers.{verdict};
@@ -17,6 +17,7 @@ pub enum Answer {
     Chance(usize),
     Unused(usize),
     Room,
+    Narrow(usize),
 }
 
 // The paper's number and place of an answer.
@@ -34,6 +35,7 @@ pub fn number(a: Answer) -> u8
         Answer::Chance(_) => 7,
         Answer::Unused(_) => 8,
         Answer::Room => 9,
+        Answer::Narrow(_) => 21,
     }
 }
 
@@ -51,5 +53,6 @@ pub fn place(a: Answer) -> usize
         Answer::Chance(p) => p,
         Answer::Unused(p) => p,
         Answer::Room => 0,
+        Answer::Narrow(p) => p,
     }
 }

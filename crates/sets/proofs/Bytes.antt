@@ -15,12 +15,14 @@ use lib.Bits.{bitAnd}
 use borrow.Author.Tests.{eq-eqb, ne-eqb}
 use Rattle.paper.specs.Lists.{keep, upTo}
 use Rattle.paper.specs.Sets.{Set, none, put, members}
-use Rattle.paper.specs.Listing.{memberBytes, cutBytes, setBytes}
+use Rattle.paper.specs.Limits.{wideFrom}
+use Rattle.paper.specs.Listing.{member, memberBytes, cutBytes, setBytes}
+use Rattle.paper.proofs.Listing.{narrow, wide, narrow-long, wide-long, no-bytes, bytes-cons-long, bytes-append, bytes-more, cut-long}
 use Rattle.sets.specs.Words.{bit, setOf, room, Trail}
 use Rattle.sets.specs.Bytes.{wordSet, inWord, Told, Spelled, Begun, Laid}
 use Rattle.sets.proofs.Bit.{bit-none, drop-own, drop-other, fromBit, clear-below, clear-kept}
 use Rattle.sets.proofs.Words.{set-in}
-use Rattle.sets.proofs.Count.{keep-agree, keep-add, keep-no, fewer, members-length, cut-length}
+use Rattle.sets.proofs.Count.{keep-agree, keep-add, keep-no, fewer-bytes}
 
 -- ---- the members among some events
 
@@ -107,15 +109,6 @@ module _ (ws : List ℕ) (low : ℕ) (f : getD ws (low / 64) 0 < 2 ^ 64) where
 
 -- ---- written
 
-pub bytes-append : (l r : List ℕ) → memberBytes (l ++ r) ≡ memberBytes l ++ memberBytes r
-unfolding memberBytes
-bytes-append [] r = refl
-bytes-append (x ∷ l) r = ap (λ (t : List ℕ). 0x21 ∷ x ∷ t) (bytes-append l r)
-
-bytes-more : (l : List ℕ) (e : ℕ) → memberBytes (l ++ (e ∷ [])) ≡ memberBytes l ++ (0x21 ∷ e ∷ [])
-unfolding memberBytes
-bytes-more l e = bytes-append l (e ∷ [])
-
 -- a store at the seam of what is written and what is left
 pub seam : (w r : List ℕ) (n v : ℕ) → length w ≡ n → n < length r → set (w ++ drop n r) n v ≡ (w ++ (v ∷ [])) ++ drop (n + 1) r
 seam w r n v e h =
@@ -137,31 +130,32 @@ pub record Telling (w m at : ℕ) (r room : List ℕ) (v end : ℕ) : Type 0 whe
   pub told : List ℕ
   pub whole : inWord w m ≡ told ++ inWord v m
   pub fits : at + length (memberBytes (inWord w m)) ≤ length r
-  pub ends : end ≡ at + 2 * length told
+  pub ends : end ≡ at + length (memberBytes told)
   pub bytes : room ≡ (take at r ++ memberBytes told) ++ drop end r
 
 pub tell-start : (w m at : ℕ) (r : List ℕ) → at + length (memberBytes (inWord w m)) ≤ length r → Telling w m at r r w at
-unfolding memberBytes
 tell-start w m at r h = record {
   told = [];
   whole = refl;
   fits = h;
-  ends = omega arith;
-  bytes = sym (ap (λ (x : List ℕ). x ++ drop at r) (append-nil (take at r)) ∙ take-append-drop at r);
+  ends = let z = ap length no-bytes in omega arith;
+  bytes = sym (ap (λ (x : List ℕ). (take at r ++ x) ++ drop at r) no-bytes ∙ ap (λ (x : List ℕ). x ++ drop at r) (append-nil (take at r)) ∙ take-append-drop at r);
 }
 
 module _ {w m at : ℕ} {r room : List ℕ} {v end : ℕ} (s : Telling w m at r room v end) where
-  front : length (take at r ++ memberBytes (s .told)) ≡ end
+  abbrev soFar : List ℕ
+  soFar = take at r ++ memberBytes (s .told)
+
+  front : length soFar ≡ end
   front =
       let f = s .fits in
       let e = s .ends in
       let a = length-append (take at r) (memberBytes (s .told)) in
       let b = length-take-le at r (omega arith) in
-      let c = members-length (s .told) in
       omega arith
 
-  all : length (memberBytes (inWord w m)) ≡ 2 * (length (s .told) + length (inWord v m))
-  all = members-length (inWord w m) ∙ ap (λ (l : List ℕ). 2 * length l) (s .whole) ∙ ap (λ (n : ℕ). 2 * n) (length-append (s .told) (inWord v m))
+  all : length (memberBytes (inWord w m)) ≡ length (memberBytes (s .told)) + length (memberBytes (inWord v m))
+  all = ap (λ (l : List ℕ). length (memberBytes l)) (s .whole) ∙ ap length (bytes-append (s .told) (inWord v m)) ∙ length-append (memberBytes (s .told)) (memberBytes (inWord v m))
 
   pub tell-long : length room ≡ length r
   tell-long =
@@ -169,47 +163,73 @@ module _ {w m at : ℕ} {r room : List ℕ} {v end : ℕ} (s : Telling w m at r 
       let e = s .ends in
       let a = all in
       let b = front in
-      ap length (s .bytes) ∙ length-append (take at r ++ memberBytes (s .told)) (drop end r) ∙ ap₂ _+_ b (length-drop end r) ∙ omega arith
+      ap length (s .bytes) ∙ length-append soFar (drop end r) ∙ ap₂ _+_ b (length-drop end r) ∙ omega arith
 
   module _ {t : ℕ} (tr : Trail v 64 t) where
-    more : length (inWord v m) ≡ suc (length (inWord (bitAnd v (v - 1)) m))
-    more = ap length (word-more v m tr)
+    abbrev others : List ℕ
+    others = inWord (bitAnd v (v - 1)) m
 
     pub tell-less : length (inWord (bitAnd v (v - 1)) m) < length (inWord v m)
-    tell-less = let q = more in omega arith
+    tell-less = let q = ap length (word-more v m tr) in omega arith
 
-    pub tell-room : end + 2 ≤ length r
+    pub tell-room : end + length (member (m + t)) ≤ length r
     tell-room =
-        let q = more in
+        let q = ap (λ (l : List ℕ). length (memberBytes l)) (word-more v m tr) ∙ bytes-cons-long (m + t) others in
         let a = all in
         let f = s .fits in
         let e = s .ends in
         omega arith
 
-    pub tell-more : Telling w m at r (set (set room end 0x21) (end + 1) (m + t)) (bitAnd v (v - 1)) (end + 2)
-    tell-more =
-        let x = take at r ++ memberBytes (s .told) in
-        let h = tell-room in
-        let one : set room end 0x21 ≡ (x ++ (0x21 ∷ [])) ++ drop (end + 1) r = ap (λ (y : List ℕ). set y end 0x21) (s .bytes) ∙ seam x r end 0x21 front (omega arith) in
-        let two : set (set room end 0x21) (end + 1) (m + t) ≡ ((x ++ (0x21 ∷ [])) ++ ((m + t) ∷ [])) ++ drop (end + 1 + 1) r =
-        ap (λ (y : List ℕ). set y (end + 1) (m + t)) one ∙ seam (x ++ (0x21 ∷ [])) r (end + 1) (m + t) (length-append x (0x21 ∷ []) ∙ ap (λ (n : ℕ). n + 1) front) (omega arith) in
-        let here : end + 1 + 1 ≡ end + 2 = omega arith in
+    -- the next member's record behind the others
+    tell-more : {room′ : List ℕ} {n : ℕ} → n ≡ length (member (m + t)) → room′ ≡ (soFar ++ member (m + t)) ++ drop (end + n) r → Telling w m at r room′ (bitAnd v (v - 1)) (end + n)
+    tell-more {n = n} q b =
         let e = s .ends in
-        let la = length-append (s .told) ((m + t) ∷ []) in
+        let la = ap length (bytes-more (s .told) (m + t)) ∙ length-append (memberBytes (s .told)) (member (m + t)) in
         record {
           told = s .told ++ ((m + t) ∷ []);
-          whole = s .whole ∙ ap (λ (l : List ℕ). s .told ++ l) (word-more v m tr) ∙ sym (append-assoc (s .told) ((m + t) ∷ []) (inWord (bitAnd v (v - 1)) m));
+          whole = s .whole ∙ ap (λ (l : List ℕ). s .told ++ l) (word-more v m tr) ∙ sym (append-assoc (s .told) ((m + t) ∷ []) others);
           fits = s .fits;
           ends = omega arith;
-          bytes = two ∙ ap₂ (λ (y : List ℕ) (j : ℕ). y ++ drop j r) (append-assoc x (0x21 ∷ []) ((m + t) ∷ []) ∙ append-assoc (take at r) (memberBytes (s .told)) (0x21 ∷ (m + t) ∷ [])
-              ∙ ap (λ (y : List ℕ). take at r ++ y) (sym (bytes-more (s .told) (m + t)))) here;
+          bytes = b ∙ ap (λ (y : List ℕ). y ++ drop (end + n) r) (append-assoc (take at r) (memberBytes (s .told)) (member (m + t)) ∙ ap (λ (y : List ℕ). take at r ++ y) (sym (bytes-more (s .told) (m + t))));
         }
+
+    -- two stores
+    stored-two : (x y : ℕ) → end + 2 ≤ length r → set (set room end x) (end + 1) y ≡ (soFar ++ (x ∷ y ∷ [])) ++ drop (end + 2) r
+    stored-two x y h =
+        let one = ap (λ (l : List ℕ). set l end x) (s .bytes) ∙ seam soFar r end x front (omega arith) in
+        let here : end + 1 + 1 ≡ end + 2 = omega arith in
+        ap (λ (l : List ℕ). set l (end + 1) y) one ∙ seam (soFar ++ (x ∷ [])) r (end + 1) y (length-append soFar (x ∷ []) ∙ ap (λ (n : ℕ). n + 1) front) (omega arith)
+        ∙ ap₂ (λ (l : List ℕ) (j : ℕ). l ++ drop j r) (append-assoc soFar (x ∷ []) (y ∷ [])) here
+
+    module _ (h : m + t < wideFrom) where
+      pub room-narrow : end + 2 ≤ length r
+      room-narrow = let a = narrow-long (m + t) h in let b = tell-room in omega arith
+
+      pub tell-narrow : Telling w m at r (set (set room end 0x21) (end + 1) (m + t)) (bitAnd v (v - 1)) (end + 2)
+      tell-narrow = tell-more (sym (narrow-long (m + t) h)) (stored-two 0x21 (m + t) room-narrow ∙ ap (λ (l : List ℕ). (soFar ++ l) ++ drop (end + 2) r) (sym (narrow (m + t) h)))
+
+    module _ (h : wideFrom ≤ m + t) where
+      pub room-wide : end + 3 ≤ length r
+      room-wide = let a = wide-long (m + t) h in let b = tell-room in omega arith
+
+      stored-wide : (x y z : ℕ) → set (set (set room end x) (end + 1) y) (end + 2) z ≡ (soFar ++ (x ∷ y ∷ z ∷ [])) ++ drop (end + 3) r
+      stored-wide x y z =
+          let g = room-wide in
+          let here : end + 2 + 1 ≡ end + 3 = omega arith in
+          ap (λ (l : List ℕ). set l (end + 2) z) (stored-two x y (omega arith))
+          ∙ seam (soFar ++ (x ∷ y ∷ [])) r (end + 2) z (length-append soFar (x ∷ y ∷ []) ∙ ap (λ (n : ℕ). n + 2) front) (omega arith)
+          ∙ ap₂ (λ (l : List ℕ) (j : ℕ). l ++ drop j r) (append-assoc soFar (x ∷ y ∷ []) (z ∷ [])) here
+
+      pub tell-wide : Telling w m at r (set (set (set room end 0x23) (end + 1) ((m + t) % 256)) (end + 2) ((m + t) / 256)) (bitAnd v (v - 1)) (end + 3)
+      tell-wide =
+          tell-more (sym (wide-long (m + t) h))
+          (stored-wide 0x23 ((m + t) % 256) ((m + t) / 256) ∙ ap (λ (l : List ℕ). (soFar ++ l) ++ drop (end + 3) r) (sym (wide (m + t) h)))
 
   pub tell-end : v ≡ 0 → Told w m at r room end
   tell-end z =
       let whole : inWord w m ≡ s .told = s .whole ∙ ap (λ (l : List ℕ). s .told ++ l) (word-none v m z) ∙ append-nil (s .told) in
       record {
-        ends = s .ends ∙ ap (λ (n : ℕ). at + n) (sym (ap (λ (l : List ℕ). length (memberBytes l)) whole ∙ members-length (s .told)));
+        ends = s .ends ∙ ap (λ (l : List ℕ). at + length (memberBytes l)) (sym whole);
         bytes = s .bytes ∙ append-assoc (take at r) (memberBytes (s .told)) (drop end r) ∙ ap (λ (l : List ℕ). take at r ++ (memberBytes l ++ drop end r)) (sym whole);
       }
 
@@ -231,9 +251,7 @@ module _ {ws r R : List ℕ} {b end : ℕ} (s : Spelling ws r R b end) where
   written : {b′ : ℕ} → b′ ≤ room ws → length (memberBytes (members b′ S)) ≤ length r
   written {b′} h =
       let f = s .fits in
-      let x = members-length (members b′ S) in
-      let y = members-length (members (room ws) S) in
-      let z = fewer S b′ (room ws) h in
+      let z = fewer-bytes S b′ (room ws) h in
       omega arith
 
   pub spell-long : length R ≡ length r
@@ -285,8 +303,7 @@ pub laid-cut : (ws r : List ℕ) {size end : ℕ} {R : List ℕ} → size ≡ le
 unfolding cutBytes
 laid-cut ws r {size} {end} {R} q h s =
     let l = members (room ws) (setOf ws) in
-    let c = cut-length l in
-    let a = members-length l in
+    let c = cut-long l in
     let e = s .ends in
     record {
       short = λ z. absurd (omega arith);
@@ -298,7 +315,4 @@ laid-short cut r q h = record { short = λ _. (omega arith, refl); laid = λ z. 
 
 -- where the whole cut fits, its members do
 pub members-fit : (ws r : List ℕ) {size : ℕ} → size ≡ length (setBytes (room ws) (setOf ws)) → size ≤ length r → length (memberBytes (members (room ws) (setOf ws))) < length r
-members-fit ws r q h =
-    let c = cut-length (members (room ws) (setOf ws)) in
-    let a = members-length (members (room ws) (setOf ws)) in
-    omega arith
+members-fit ws r q h = let c = cut-long (members (room ws) (setOf ws)) in omega arith

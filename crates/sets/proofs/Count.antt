@@ -1,4 +1,4 @@
--- The number of members, by the ones of each word; and the bytes of a cut by that number.
+-- The number of members, by the ones of each word; and their bytes, by the number below event 256 and the number of all.
 -- Assumes nothing.
 use mathlib.Core.Path.{_≡_, refl, sym, ap, ap₂, _∙_, subst}
 use mathlib.Core.Bool.{Bool, true, false, cond}
@@ -8,13 +8,16 @@ use native.Mathlib.Nat.{zero-add, add-zero, suc-add, mod-lt, zero-lt-suc}
 use native.Mathlib.Numerals.{add-one}
 use native.Mathlib.Omega.{arith}
 use lib.Arith.{lt-one}
-use lib.Dec.{eqb}
+use lib.Dec.{eqb, leb}
 use lib.Pow.{shr-lt}
 use lib.ListN.{length, getD, length-append}
 use lib.Count.{ones, ones-step}
+use borrow.Author.Tests.{leb-true, leb-false}
+use Rattle.paper.specs.Limits.{wideFrom}
 use Rattle.paper.specs.Lists.{keep, upTo}
 use Rattle.paper.specs.Sets.{Set, Within, members}
-use Rattle.paper.specs.Listing.{memberBytes, cutBytes, setBytes}
+use Rattle.paper.specs.Listing.{memberBytes}
+use Rattle.paper.proofs.Listing.{narrow-long, wide-long, no-bytes, bytes-cons-long, bytes-append}
 use Rattle.sets.specs.Words.{bit, setOf}
 use Rattle.sets.proofs.Bit.{bit-suc, bit-zero}
 use Rattle.sets.proofs.Words.{set-in}
@@ -91,15 +94,47 @@ count-word ws k h =
 
 -- ---- the bytes
 
-pub members-length : (l : List ℕ) → length (memberBytes l) ≡ 2 * length l
-unfolding memberBytes
-members-length [] = refl
-members-length (x ∷ l) = let ih = members-length l in omega arith
+-- two for each member below event 256, three for each other
+pub narrow-bytes : (S : Set) (k m : ℕ) → m + k ≤ wideFrom → length (memberBytes (keep S (upTo k m))) ≡ 2 * length (keep S (upTo k m))
+narrow-bytes S zero m h = ap length no-bytes
+narrow-bytes S (suc k) m h = go (S m) (keep S (upTo k (suc m))) (narrow-bytes S k (suc m) (omega arith))
+  where
+    go : (t : Bool) (l : List ℕ) → length (memberBytes l) ≡ 2 * length l → length (memberBytes (cond t (m ∷ l) l)) ≡ 2 * length (cond t (m ∷ l) l)
+    go true l e = let n = narrow-long m (omega arith) in bytes-cons-long m l ∙ omega arith
+    go false l e = e
 
-pub cut-length : (l : List ℕ) → length (cutBytes l) ≡ 2 * length l + 1
-unfolding cutBytes
-cut-length l = length-append (memberBytes l) (0x22 ∷ []) ∙ ap (λ (n : ℕ). n + 1) (members-length l)
+pub wide-bytes : (S : Set) (k m : ℕ) → wideFrom ≤ m → length (memberBytes (keep S (upTo k m))) ≡ 3 * length (keep S (upTo k m))
+wide-bytes S zero m h = ap length no-bytes
+wide-bytes S (suc k) m h = go (S m) (keep S (upTo k (suc m))) (wide-bytes S k (suc m) (omega arith))
+  where
+    go : (t : Bool) (l : List ℕ) → length (memberBytes l) ≡ 3 * length l → length (memberBytes (cond t (m ∷ l) l)) ≡ 3 * length (cond t (m ∷ l) l)
+    go true l e = let n = wide-long m (omega arith) in bytes-cons-long m l ∙ omega arith
+    go false l e = e
 
--- so many bytes as twice the ones and one
-pub bytes-of : (n : ℕ) (S : Set) {k : ℕ} → k ≡ length (members n S) → 2 * k + 1 ≡ length (setBytes n S)
-bytes-of n S e = ap (λ (x : ℕ). 2 * x + 1) e ∙ sym (cut-length (members n S))
+-- the members among the first events have no more bytes than all
+pub fewer-bytes : (S : Set) (a n : ℕ) → a ≤ n → length (memberBytes (members a S)) ≤ length (memberBytes (members n S))
+fewer-bytes S a n h =
+    let rest = keep S (upTo (n - a) (0 + a)) in
+    let q : length (memberBytes (members n S)) ≡ length (memberBytes (members a S)) + length (memberBytes rest) =
+    ap (λ (l : List ℕ). length (memberBytes l)) (two-parts S a n h) ∙ ap length (bytes-append (members a S) rest) ∙ length-append (memberBytes (members a S)) (memberBytes rest) in
+    omega arith
+
+-- by two counts: those below event 256, and all. The number 256 is a variable here: the members below it are then no list of 256 tests
+pub wide-members : (S : Set) {w b : ℕ} → w ≡ wideFrom → w ≤ b → length (memberBytes (members b S)) + length (members w S) ≡ 3 * length (members b S)
+wide-members S {w} {b} e h =
+    let rest = keep S (upTo (b - w) (0 + w)) in
+    let p = two-parts S w b h in
+    let bytes : length (memberBytes (members b S)) ≡ length (memberBytes (members w S)) + length (memberBytes rest) =
+    ap (λ (l : List ℕ). length (memberBytes l)) p ∙ ap length (bytes-append (members w S) rest) ∙ length-append (memberBytes (members w S)) (memberBytes rest) in
+    let count : length (members b S) ≡ length (members w S) + length rest = ap length p ∙ length-append (members w S) rest in
+    let low = narrow-bytes S w 0 (omega arith) in
+    let high = wide-bytes S (b - w) (0 + w) (omega arith) in
+    omega arith
+
+-- no more than three for each
+pub bytes-most : (S : Set) (b : ℕ) → length (memberBytes (members b S)) ≤ 3 * b
+bytes-most S b = go wideFrom refl (leb b wideFrom) refl
+  where
+    go : (w : ℕ) → w ≡ wideFrom → (t : Bool) → leb b w ≡ t → length (memberBytes (members b S)) ≤ 3 * b
+    go w q true e = let n = narrow-bytes S b 0 (omega (arith, leb-true b w e)) in let c = count-le S b 0 in omega arith
+    go w q false e = let n = wide-members S {w = w} {b = b} q (omega (arith, leb-false b w e)) in let c = count-le S b 0 in omega arith

@@ -1,21 +1,26 @@
--- The line: it begins with the bytes of the members that stay, which are copied, and gets those of the new ones.
+-- The line: it begins with the bytes of the members that stay, which are copied, and gets those of the new ones; and how many bytes members have, by two counts.
 -- Assumes nothing.
 use mathlib.Core.Path.{_≡_, refl, sym, ap, ap₂, _∙_}
+use mathlib.Core.Bool.{Bool, true, false, cond}
 use mathlib.Core.List.{List, _++_, append-assoc}
 use Prim.Native.Nat.{ℕ, _+_, _-_, _*_, _/_, _%_, _^_, _≤_, _<_}
 use native.Mathlib.Numerals.{add-one}
 use native.Mathlib.Omega.{arith}
+use lib.Dec.{leb}
 use lib.ListN.{length, getD, set, take, drop}
 use lib.Seq.{take-suc, take-at, drop-at, drop-drop, drop-append-add, length-take-le}
+use borrow.Author.Tests.{leb-true, leb-false}
+use Rattle.paper.specs.Limits.{wideFrom}
 use Rattle.paper.specs.Sets.{Set, members}
 use Rattle.paper.specs.Lists.{keep, upTo}
 use Rattle.paper.specs.Listing.{memberBytes, setBytes}
-use Rattle.sets.specs.Words.{setOf, room}
+use Rattle.paper.proofs.Listing.{no-bytes, bytes-append, cut-long}
+use Rattle.sets.specs.Words.{setOf, room, Few, sizeOf}
 use Rattle.sets.specs.Bytes.{inWord, Told, Spelled, Begun, Laid}
-use Rattle.sets.specs.Beside.{Between, Line}
+use Rattle.sets.specs.Beside.{Between, Ahead, Line, Counted, bytesBy}
 use Rattle.sets.proofs.Bit.{fromBit}
-use Rattle.sets.proofs.Count.{keep-agree, two-parts, fewer, count-le, members-length}
-use Rattle.sets.proofs.Bytes.{members-word, members-on, bytes-append, seam, Spelling, spell-start, spell-long, spell-room, spell-more, spell-end, laid-cut, members-fit}
+use Rattle.sets.proofs.Count.{keep-agree, two-parts, fewer, members-all, count-le, narrow-bytes, fewer-bytes, wide-members, bytes-most}
+use Rattle.sets.proofs.Bytes.{members-word, members-on, seam, Spelling, spell-start, spell-long, spell-room, spell-more, spell-end, laid-cut, members-fit}
 use Rattle.sets.proofs.Beside.{low-word, high-word, all-members}
 
 -- ---- copied
@@ -54,8 +59,7 @@ module _ {ws : List ℕ} {b : ℕ} {line : List ℕ} (l : Line ws b line) where
   pub line-begun : {size : ℕ} → size ≡ length (memberBytes (members b S)) → Begun ws b line size
   line-begun {size} q =
       let lg = l .long in
-      let c = count-le S (room ws) 0 in
-      let m = members-length (members (room ws) S) in
+      let m = bytes-most S (room ws) in
       record {
         fits = omega arith;
         begins = record { ends = q; bytes = l .begins ∙ ap (λ (x : List ℕ). memberBytes (members b S) ++ x) (sym (ap (drop size) (l .begins) ∙ drop-at (memberBytes (members b S)) (l .behind) size (sym q))) };
@@ -66,12 +70,11 @@ module _ {ws : List ℕ} {b : ℕ} {line : List ℕ} (l : Line ws b line) where
   line-copied {size} r q e = record { ends = q; bytes = e ∙ ap (λ (x : List ℕ). x ++ drop size r) (ap (take size) (l .begins) ∙ take-at (memberBytes (members b S)) (l .behind) size (sym q)) }
 
 -- at the start it begins with no byte
-pub line-none : {ws line : List ℕ} → 2 * room ws ≤ length line → Line ws 0 line
-unfolding memberBytes
-line-none {line = line} h = record { long = h; behind = line; begins = refl }
+pub line-none : {ws line : List ℕ} → 3 * room ws ≤ length line → Line ws 0 line
+line-none {line = line} h = record { long = h; behind = line; begins = sym (ap (λ (x : List ℕ). x ++ line) no-bytes) }
 
 -- with all members in it
-pub line-all : {ws r line : List ℕ} {b end : ℕ} → 2 * room ws ≤ length line → Spelled ws r line b end → Line ws b line
+pub line-all : {ws r line : List ℕ} {b end : ℕ} → 3 * room ws ≤ length line → Spelled ws r line b end → Line ws b line
 line-all {r = r} {end = end} h s = record { long = h; behind = drop end r; begins = s .bytes }
 
 -- ---- one part behind the other
@@ -85,9 +88,7 @@ module _ {ws r R : List ℕ} {b end : ℕ} (s : Spelled ws r R b end) where
   pub spelled-on : {R′ : List ℕ} {b′ end′ : ℕ} → b ≤ b′ → Spelled ws R R′ b′ end′ → Spelled ws r R′ b′ end′
   spelled-on {b′ = b′} {end′} h t =
       let bytes = memberBytes (members b (setOf ws)) in
-      let f = fewer (setOf ws) b b′ h in
-      let x = members-length (members b (setOf ws)) in
-      let y = members-length (members b′ (setOf ws)) in
+      let f = fewer-bytes (setOf ws) b b′ h in
       let e = s .ends in
       let e′ = t .ends in
       let at : end′ ≡ length bytes + (end′ - end) = omega arith in
@@ -137,41 +138,100 @@ module _ {ws r R : List ℕ} {low high k end : ℕ} (b : Between ws low high) (s
   pub no-word : k ≤ high / 64 → high / 64 ≤ k → {r₀ : List ℕ} {c end₀ : ℕ} → Spelling ws r₀ r c end₀ → Spelled ws r₀ R (room ws) end
   no-word u h t = let i = high-word b in spelled-on (t .so-far) (t .within) (spell-end s (all-members b {k = k + 1} (omega arith) (omega arith)))
 
+-- ---- the bytes of members by two counts
+
+-- on plain numbers: f of c members are among the first, and all have m bytes
+some-of : {x f c count : ℕ} → x ≡ f → f ≤ c → count ≡ c → x ≤ count
+some-of e h q = omega arith
+
+by-two : {x f c count m : ℕ} → x ≡ f → m + f ≡ 3 * c → count ≡ c → 3 * count - x ≡ m
+by-two e h q = omega arith
+
+-- of the members below event b, where what stands ahead is right for event a
+module _ {ws : List ℕ} {a : ℕ} {ahead : List ℕ} (w : Ahead ws a ahead) {b count : ℕ} (h : b ≤ a + 1) (i : b ≤ room ws) (q : count ≡ length (members b (setOf ws))) where
+  few : (x : ℕ) → x ≡ wideFrom → wideFrom < b → getD ahead (x / 64) 0 ≡ length (members x (setOf ws))
+  few x e l = let y : x / 64 * 64 ≡ x = omega arith in w .is (x / 64) (omega arith) ∙ ap (λ (n : ℕ). length (members n (setOf ws))) y
+
+  among : (x : ℕ) → x ≡ wideFrom → wideFrom < b → getD ahead (x / 64) 0 ≤ count
+  among x e l = some-of (few x e l) (fewer (setOf ws) x b (omega arith)) q
+
+  pub counted : Few ws → Counted ahead count b
+  counted f =
+      let c = count-le (setOf ws) b 0 in
+      let g = w .long in
+      record { small = omega arith; inside = λ l. omega arith; among = among wideFrom refl }
+
+  by-width : (x : ℕ) → x ≡ wideFrom → (t : Bool) → leb b x ≡ t → cond t (2 * count) (3 * count - getD ahead (x / 64) 0) ≡ length (memberBytes (members b (setOf ws)))
+  by-width x e true g = let n = narrow-bytes (setOf ws) b 0 (omega (arith, leb-true b x g)) in omega arith
+  by-width x e false g = let l = leb-false b x g in by-two (few x e (omega arith)) (wide-members (setOf ws) {w = x} {b = b} e (omega arith)) q
+
+  pub bytes-by : bytesBy ahead count b ≡ length (memberBytes (members b (setOf ws)))
+  unfolding bytesBy
+  bytes-by = by-width wideFrom refl (leb b wideFrom) refl
+
+-- of all: no member is above high
+module _ {ws : List ℕ} {low high : ℕ} (b : Between ws low high) {n : ℕ} (q : n ≡ sizeOf ws) where
+  pub size-is : n ≡ length (members (high + 1) (setOf ws))
+  size-is = let i = b .inside in q ∙ ap length (members-all (setOf ws) (high + 1) (room ws) (omega arith) (λ j g. b .within j (omega arith)))
+
+  module _ {ahead : List ℕ} (w : Ahead ws high ahead) where
+    pub size-counted : Few ws → Counted ahead n (high + 1)
+    size-counted f = let i = b .inside in counted w (omega arith) (omega arith) size-is f
+
+    pub cut-small : Few ws → {r : ℕ} → r ≡ bytesBy ahead n (high + 1) → r ≤ 196608
+    cut-small f e =
+        let i = b .inside in
+        let m = e ∙ bytes-by w (omega arith) (omega arith) size-is in
+        let c = bytes-most (setOf ws) (high + 1) in
+        omega arith
+
+    pub cut-size : {r : ℕ} → r ≡ bytesBy ahead n (high + 1) → r + 1 ≡ length (setBytes (room ws) (setOf ws))
+    cut-size e =
+        let i = b .inside in
+        let all = members-all (setOf ws) (high + 1) (room ws) (omega arith) (λ j g. b .within j (omega arith)) in
+        let m = e ∙ bytes-by w (omega arith) (omega arith) size-is in
+        let c = cut-long (members (room ws) (setOf ws)) ∙ ap (λ (l : List ℕ). length (memberBytes l) + 1) all in
+        omega arith
+
+-- of those that stay
+module _ {ws : List ℕ} {low high : ℕ} (b : Between ws low high) {ahead : List ℕ} (w : Ahead ws high ahead) {kept : ℕ} (q : kept ≡ length (members low (setOf ws))) where
+  pub kept-counted : Few ws → Counted ahead kept low
+  kept-counted f = let r = b .rise in let i = b .inside in counted w (omega arith) (omega arith) q f
+
+  pub kept-bytes : {at : ℕ} → at ≡ bytesBy ahead kept low → at ≡ length (memberBytes (members low (setOf ws)))
+  kept-bytes e = let r = b .rise in let i = b .inside in e ∙ bytes-by w (omega arith) (omega arith) q
+
 -- ---- a cut
 
--- the members below low, `kept` of them, are in the line
-module _ {ws line : List ℕ} {kept low high : ℕ} (b : Between ws low high) (l : Line ws low line) (q : kept ≡ length (members low (setOf ws))) where
-  pub kept-few : kept ≤ room ws
-  kept-few = let c = count-le (setOf ws) low 0 in let r = b .rise in let i = b .inside in omega arith
+-- the bytes of the members below low, `at` of them, are in the line
+module _ {ws line : List ℕ} {at low high : ℕ} (b : Between ws low high) (l : Line ws low line) (q : at ≡ length (memberBytes (members low (setOf ws)))) where
+  pub kept-line : at ≤ length line
+  kept-line =
+      let c = bytes-most (setOf ws) low in
+      let g = l .long in
+      let r = b .rise in
+      let i = b .inside in
+      omega arith
 
-  pub kept-line : 2 * kept ≤ length line
-  kept-line = let c = kept-few in let g = l .long in omega arith
-
-  bytes-kept : 2 * kept ≡ length (memberBytes (members low (setOf ws)))
-  bytes-kept = ap (λ (n : ℕ). 2 * n) q ∙ sym (members-length (members low (setOf ws)))
-
-  pub line-ready : Begun ws low line (2 * kept)
-  line-ready = line-begun l bytes-kept
+  pub line-ready : Begun ws low line at
+  line-ready = line-begun l q
 
   -- and the room that is left has place for the whole cut
   module _ (left : List ℕ) {size : ℕ} (e : size ≡ length (setBytes (room ws) (setOf ws))) (h : size ≤ length left) where
-    pub kept-left : 2 * kept ≤ length left
+    pub kept-left : at ≤ length left
     kept-left =
         let f = members-fit ws left e h in
         let r = b .rise in
         let i = b .inside in
-        let x = bytes-kept in
-        let y = members-length (members low (setOf ws)) in
-        let z = members-length (members (room ws) (setOf ws)) in
-        let w = fewer (setOf ws) low (room ws) (omega arith) in
+        let w = fewer-bytes (setOf ws) low (room ws) (omega arith) in
         omega arith
 
-    module _ {left₁ : List ℕ} (c : left₁ ≡ take (2 * kept) line ++ drop (2 * kept) left) where
-      pub copied : length left₁ ≡ length left → Begun ws low left₁ (2 * kept)
-      copied m = let f = members-fit ws left e h in record { fits = omega arith; begins = spelled-again (line-copied l left bytes-kept c) }
+    module _ {left₁ : List ℕ} (c : left₁ ≡ take at line ++ drop at left) where
+      pub copied : length left₁ ≡ length left → Begun ws low left₁ at
+      copied m = let f = members-fit ws left e h in record { fits = omega arith; begins = spelled-again (line-copied l left q c) }
 
       pub cut-done : {left₂ : List ℕ} {end : ℕ} → Spelled ws left₁ left₂ (room ws) end → Laid (setBytes (room ws) (setOf ws)) left (end + 1) (set left₂ end 0x22)
-      cut-done s = let r = b .rise in let i = b .inside in laid-cut ws left e h (spelled-on (line-copied l left bytes-kept c) (omega arith) s)
+      cut-done s = let r = b .rise in let i = b .inside in laid-cut ws left e h (spelled-on (line-copied l left q c) (omega arith) s)
 
   pub line-next : {line′ : List ℕ} {end : ℕ} → length line′ ≡ length line → Spelled ws line line′ (room ws) end → Line ws (room ws) line′
   line-next m s = let g = l .long in line-all (omega arith) s

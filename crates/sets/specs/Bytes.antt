@@ -5,6 +5,7 @@ use mathlib.Core.List.{List, _++_}
 use Prim.Native.Nat.{ℕ, _+_, _-_, _≤_, _<_}
 use lib.Dec.{eqb}
 use lib.ListN.{length, take, drop}
+use Rattle.paper.specs.Limits.{wideFrom}
 use Rattle.paper.specs.Lists.{keep, upTo}
 use Rattle.paper.specs.Sets.{Set, members}
 use Rattle.paper.specs.Listing.{memberBytes}
@@ -17,12 +18,12 @@ wordSet w m i = eqb (bit w (i - m)) 1
 unfoldable pub inWord : ℕ → ℕ → List ℕ
 inWord w m = keep (wordSet w m) (upTo 64 m)
 
--- the number of each event has one byte: of a word from m on, and of all words
-abbrev pub InByte : ℕ → Type 0
-InByte m = m + 64 ≤ 256
+-- the numbers of a word's events, from m on, take one byte, or two
+abbrev pub OneByte : ℕ → Type 0
+OneByte m = m + 64 ≤ wideFrom
 
-abbrev pub OneByte : List ℕ → Type 0
-OneByte ws = room ws ≤ 256
+abbrev pub TwoBytes : ℕ → Type 0
+TwoBytes m = (wideFrom ≤ m) × (m + 64 ≤ 65536)
 
 -- those of a word's members were written behind `at` bytes of a room r; they end at `end`
 pub record Told (w m at : ℕ) (r r′ : List ℕ) (end : ℕ) : Type 0 where

@@ -7,8 +7,8 @@ ghost use lib.ListN.{length, replicate, take, drop};
 ghost use Rattle.paper.specs.Sets.{put, members};
 ghost use Rattle.paper.specs.Listing.{memberBytes, setBytes};
 ghost use Rattle.sets.specs.Words.{words, setOf, room, Few, sizeOf, Trail, Lowest};
-ghost use Rattle.sets.specs.Bytes.{inWord, InByte, OneByte, Told, Spelled, Begun, Laid};
-ghost use Rattle.sets.specs.Beside.{Between, Ahead, Line};
+ghost use Rattle.sets.specs.Bytes.{inWord, OneByte, TwoBytes, Told, Spelled, Begun, Laid};
+ghost use Rattle.sets.specs.Beside.{Between, Ahead, Line, Counted, bytesBy};
 
 // A set that can hold every event of a tree has so many words, and holds so many events.
 pub const WORDS: usize = paper::EVENTS / 64;
@@ -16,7 +16,10 @@ pub const WORDS: usize = paper::EVENTS / 64;
 pub const MOST: usize = 64 * WORDS;
 
 // So many bytes its members have at most.
-pub const LINE: usize = 2 * MOST;
+pub const LINE: usize = 3 * MOST;
+
+// The first word whose events' numbers take two bytes.
+const WIDE: usize = paper::WIDE_FROM as usize / 64;
 
 // The place of the lowest set bit of a word that is not 0.
 fn low_bit(w: u64) -> usize
@@ -101,9 +104,21 @@ fn recount(ws: &[u64], ahead: &mut [usize], low: usize, high: usize) -> usize
     n
 }
 
+// The bytes of the members below event `b`, of which there are `count`: two for each below event 256, three for each other. `ahead` has how many are below 256.
+fn bytes_of(ahead: &[usize], count: usize, b: usize) -> usize
+    requires { ⌜ Counted (now ahead) count b ⌝ }
+    ensures { λ r. ⌜ r ≡ bytesBy (now (ahead .entry)) count b ⌝ }
+{
+    if b <= paper::WIDE_FROM as usize {
+        return 2 * count;
+    }
+    3 * count - ahead[WIDE]
+}
+
 // Writes the members that a word tells, of the 64 events from `base` on, behind `at` bytes of the line and of the room that is left; answers where they end.
-fn write_word(w: u64, base: usize, line: &mut [u8], left: &mut [u8], at: usize) -> usize
-    requires { ⌜ InByte base × (at + length (memberBytes (inWord w base)) ≤ length (now line)) × (at + length (memberBytes (inWord w base)) ≤ length (now left)) ⌝ }
+// Their numbers take one byte.
+fn write_narrow(w: u64, base: usize, line: &mut [u8], left: &mut [u8], at: usize) -> usize
+    requires { ⌜ OneByte base × (at + length (memberBytes (inWord w base)) ≤ length (now line)) × (at + length (memberBytes (inWord w base)) ≤ length (now left)) ⌝ }
     ensures { λ r. ⌜ Told w base at (now (line .entry)) (now (line .exit)) r × Told w base at (now (left .entry)) (now (left .exit)) r ⌝ }
 {
     let mut v = w;
@@ -120,6 +135,40 @@ fn write_word(w: u64, base: usize, line: &mut [u8], left: &mut [u8], at: usize) 
     end
 }
 
+// The same of numbers that take two bytes.
+fn write_wide(w: u64, base: usize, line: &mut [u8], left: &mut [u8], at: usize) -> usize
+    requires { ⌜ TwoBytes base × (at + length (memberBytes (inWord w base)) ≤ length (now line)) × (at + length (memberBytes (inWord w base)) ≤ length (now left)) ⌝ }
+    ensures { λ r. ⌜ Told w base at (now (line .entry)) (now (line .exit)) r × Told w base at (now (left .entry)) (now (left .exit)) r ⌝ }
+{
+    let mut v = w;
+    let mut end = at;
+    while v != 0 {
+        let e = base + low_bit(v);
+        let low = (e % 256) as u8;
+        let high = (e / 256) as u8;
+        line[end] = 0x23;
+        line[end + 1] = low;
+        line[end + 2] = high;
+        left[end] = 0x23;
+        left[end + 1] = low;
+        left[end + 2] = high;
+        end += 3;
+        v = v & (v - 1);
+    }
+    end
+}
+
+// The same of word `k`.
+fn write_word(w: u64, k: usize, line: &mut [u8], left: &mut [u8], at: usize) -> usize
+    requires { ⌜ (k < 1024) × (at + length (memberBytes (inWord w (k * 64))) ≤ length (now line)) × (at + length (memberBytes (inWord w (k * 64))) ≤ length (now left)) ⌝ }
+    ensures { λ r. ⌜ Told w (k * 64) at (now (line .entry)) (now (line .exit)) r × Told w (k * 64) at (now (left .entry)) (now (left .exit)) r ⌝ }
+{
+    if k < WIDE {
+        return write_narrow(w, k * 64, line, left, at);
+    }
+    write_wide(w, k * 64, line, left, at)
+}
+
 // Writes the members from event `low` on, of which none is above event `high`, behind those below it in the line and in the room that is left: there they are
 // `at` bytes. Answers where all end.
 fn write_from(
@@ -130,14 +179,14 @@ fn write_from(
     left: &mut [u8],
     at: usize,
 ) -> usize
-    requires { ⌜ OneByte (now ws) × Between (now ws) low high × Begun (now ws) low (now line) at × Begun (now ws) low (now left) at ⌝ }
+    requires { ⌜ Few (now ws) × Between (now ws) low high × Begun (now ws) low (now line) at × Begun (now ws) low (now left) at ⌝ }
     ensures { λ r. ⌜ Spelled (now (ws .entry)) (now (line .entry)) (now (line .exit)) (room (now (ws .entry))) r × Spelled (now (ws .entry)) (now (left .entry)) (now (left .exit)) (room (now (ws .entry))) r ⌝ }
 {
     let mut k = low / 64;
-    let mut end = write_word((ws[k] >> (low % 64)) << (low % 64), k * 64, line, left, at);
+    let mut end = write_word((ws[k] >> (low % 64)) << (low % 64), k, line, left, at);
     while k < high / 64 {
         k += 1;
-        end = write_word(ws[k], k * 64, line, left, end);
+        end = write_word(ws[k], k, line, left, end);
     }
     end
 }
@@ -154,9 +203,9 @@ fn copy(line: &[u8], left: &mut [u8], size: usize)
     }
 }
 
-// Writes a cut at the front of the room that is left, if it fits there, and says how many bytes it took: 0 where it does not fit. Ones give its size, and
-// trailing zeros each member. Only the events from `low` to `high` may have changed since the cut before: ones are counted again in their words alone, and
-// the members below `low`, which are `kept`, have their bytes in the line.
+// Writes a cut at the front of the room that is left, if it fits there, and says how many bytes it took: 0 where it does not fit. Ones give its size, below
+// event 256 and from there on, and trailing zeros each member. Only the events from `low` to `high` may have changed since the cut before: ones are counted again
+// in their words alone, and the members below `low`, which are `kept`, have their bytes in the line.
 pub fn write_cut(
     ws: &[u64],
     kept: usize,
@@ -166,15 +215,17 @@ pub fn write_cut(
     line: &mut [u8],
     left: &mut [u8],
 ) -> usize
-    requires { ⌜ OneByte (now ws) × Between (now ws) low high × Ahead (now ws) low (now ahead) × Line (now ws) low (now line) × (kept ≡ length (members low (setOf (now ws)))) ⌝ }
+    requires { ⌜ Few (now ws) × Between (now ws) low high × Ahead (now ws) low (now ahead) × Line (now ws) low (now line) × (kept ≡ length (members low (setOf (now ws)))) ⌝ }
     ensures { λ r. ⌜ Laid (setBytes (room (now (ws .entry))) (setOf (now (ws .entry)))) (now (left .entry)) r (now (left .exit)) × Ahead (now (ws .entry)) high (now (ahead .exit)) × (0 < r → Line (now (ws .entry)) (room (now (ws .entry))) (now (line .exit))) ⌝ }
 {
-    let size = 2 * recount(ws, ahead, low, high) + 1;
-    if left.len() < size {
+    let size = recount(ws, ahead, low, high);
+    let bytes = bytes_of(ahead, size, high + 1) + 1;
+    if left.len() < bytes {
         return 0;
     }
-    copy(line, left, 2 * kept);
-    let end = write_from(ws, low, high, line, left, 2 * kept);
+    let at = bytes_of(ahead, kept, low);
+    copy(line, left, at);
+    let end = write_from(ws, low, high, line, left, at);
     left[end] = 0x22;
     end + 1
 }

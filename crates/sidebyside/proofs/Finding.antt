@@ -3,7 +3,7 @@
 use mathlib.Core.Path.{_≡_, refl, sym, ap, _∙_, subst}
 use mathlib.Core.Logic.{_⊎_, inl, inr}
 use mathlib.Core.List.{List, [], _∷_, _++_, map}
-use Prim.Native.Nat.{ℕ, _+_, _-_, _≤_, _<_}
+use Prim.Native.Nat.{ℕ, _+_, _-_, _<_}
 use native.Mathlib.Omega.{arith}
 use lib.ListN.{length, drop}
 use Rattle.paper.specs.Limits.{limits}
@@ -23,7 +23,7 @@ use Rattle.sidebyside.specs.declared.cut.Earlier.the-variants.{First, Sa
 use Rattle.sidebyside.proofs.Lt.{lt-irrefl, leads-first, leads-out, rows-split}
 use Rattle.sidebyside.proofs.Sets.{members-of, lt-before}
 use Rattle.sidebyside.proofs.Telling.{held-good, front-bytes}
-use Rattle.sidebyside.proofs.Walking.{good-split, walk-start, walk-inside, walk-over, here, cut-long, walk-head, walk-next}
+use Rattle.sidebyside.proofs.Walking.{good-split, walk-start, walk-over, here, cut-long, walk-head, walk-next}
 
 -- ---- two lists in order
 
@@ -138,9 +138,6 @@ module _ {y t : List ℕ} {at end stop : ℕ} (f : Along y t at end stop) where
       let (ls, k) = good-split (f .mine .passed) g in
       let (ms, j) = good-split (f .yours .passed) h in
       (g, k .bytes ∙ ap (λ (x : List (List ℕ)). cutsBytes (f .cuts ++ x)) (walk-over (f .mine) p ls k ∙ sym (walk-over (f .yours) q ms j)) ∙ sym (j .bytes))
-
-  pub along-inside : (at ≤ length y) × (at ≤ length t)
-  along-inside = (walk-inside (f .mine), walk-inside (f .yours))
 
   module _ (h : 0 < end) where
     abbrev c : List ℕ

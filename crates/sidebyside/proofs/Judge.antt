@@ -4,20 +4,22 @@ use mathlib.Core.Path.{_≡_, refl, sym, ap, ap₂, _∙_}
 use mathlib.Core.Logic.{_⊎_, inl, inr, _↔_}
 use mathlib.Core.Bool.{Bool, true, false, _&&_, _||_, not, true≢false, false≢true}
 use mathlib.Core.List.{List, [], _∷_, _++_, map}
-use Prim.Native.Nat.{ℕ, suc}
+use Prim.Native.Nat.{ℕ, suc, _+_, _*_, _/_, _%_}
+use native.Mathlib.Omega.{arith}
 use lib.Dec.{eqb, leb, ltb}
 use borrow.Author.Tests.{not-true, eqb-true, eq-eqb, ltb-true, lt-ltb, leb-true, le-leb}
 use Rattle.paper.specs.Limits.{limits}
 use Rattle.paper.specs.Lists.{In, every}
 use Rattle.paper.specs.Bytes.{same}
 use Rattle.paper.specs.Sets.{members}
-use Rattle.paper.specs.Listing.{cutBytes}
+use Rattle.paper.specs.Listing.{memberBytes, cutBytes}
 use Rattle.paper.specs.GoodListing.{Good}
+use Rattle.paper.proofs.Listing.{by-width}
 use Rattle.algebra.proofs.CutCount.{and-both}
 use Rattle.sidebyside.specs.Members.{RisingFrom, Lt, Leads, Rows, AllRising, cutsBytes, Held}
-use Rattle.sidebyside.specs.Judge.{push, cutsOf, risingFrom, before, inRow, judge}
+use Rattle.sidebyside.specs.Judge.{push, cutsFrom, cutsOf, risingFrom, before, inRow, judge}
 use Rattle.sidebyside.specs.Examples.{goods, good-ones, bads, bad-ones}
-use Rattle.sidebyside.proofs.Coding.{end-bytes, member-bytes, cuts-nil, cuts-cons}
+use Rattle.sidebyside.proofs.Coding.{end-bytes, narrow-is, wide-is, member-front, cuts-nil, cuts-cons}
 use Rattle.sidebyside.proofs.Telling.{held-good, good-held}
 
 join : {a b : Bool} → a ≡ true → b ≡ true → (a && b) ≡ true
@@ -108,14 +110,20 @@ all-is (c ∷ cs) r = join (rising-is 0 c (r c (inl refl))) (all-is cs (λ d k. 
 
 -- ---- taken apart
 
+-- a member, of either kind
+cuts-member : (e : ℕ) (rest : List ℕ) → cutsOf (memberBytes (e ∷ []) ++ rest) ≡ push e (cutsOf rest)
+unfolding cutsFrom
+cuts-member e rest =
+    by-width e (λ h. ap cutsOf (narrow-is h rest))
+    (λ h. let q : e % 256 + 256 * (e / 256) ≡ e = omega arith in ap cutsOf (wide-is h rest) ∙ ap (λ (x : ℕ). push x (cutsOf rest)) q)
+
 cuts-cut : (c rest : List ℕ) → cutsOf (cutBytes c ++ rest) ≡ c ∷ cutsOf rest
-unfolding cutsOf push
-cuts-cut [] [] = ap cutsOf (end-bytes [])
-cuts-cut [] (e ∷ s) = ap cutsOf (end-bytes (e ∷ s))
-cuts-cut (e ∷ es) rest = ap cutsOf (member-bytes e es rest) ∙ ap (push e) (cuts-cut es rest)
+unfolding cutsFrom push
+cuts-cut [] rest = ap cutsOf (end-bytes rest)
+cuts-cut (e ∷ es) rest = ap cutsOf (member-front e es rest) ∙ cuts-member e (cutBytes es ++ rest) ∙ ap (push e) (cuts-cut es rest)
 
 pub cuts-told : (cs : List (List ℕ)) → cutsOf (cutsBytes cs) ≡ cs
-unfolding cutsOf
+unfolding cutsFrom
 cuts-told [] = ap cutsOf cuts-nil
 cuts-told (c ∷ cs) = ap cutsOf (cuts-cons c cs) ∙ cuts-cut c (cutsBytes cs) ∙ ap (λ (l : List (List ℕ)). c ∷ l) (cuts-told cs)
 

@@ -3,6 +3,7 @@ pub mod Coding
 pub mod Sets
 pub mod Telling
 pub mod OneCut
+pub mod Whole
 pub mod TwoCuts
 pub mod Walking
 pub mod Finding

@@ -20,7 +20,7 @@ use Rattle.sidebyside.specs.Merging.{hasCut, goneOf, keptOf, Adds, Mergi
 use Rattle.sidebyside.specs.declared.cut.Earlier.the-variants.{First, Same, Second}
 use Rattle.sidebyside.proofs.Lt.{leads-first, leads-out, rows-split}
 use Rattle.sidebyside.proofs.Telling.{good-held, held-good, held-once}
-use Rattle.sidebyside.proofs.Walking.{passed-once, walk-start, walk-inside, walk-over, here, walk-head, walk-next}
+use Rattle.sidebyside.proofs.Walking.{passed-once, walk-start, walk-over, here, walk-head, walk-next}
 use Rattle.sidebyside.proofs.Finding.{orders-flip}
 use Rattle.sidebyside.proofs.Counting.{gone-skip, gone-more, kept-more, gone-both, kept-both, gone-none, kept-none, gone-all, kept-no, kept-flip}
 
@@ -121,9 +121,6 @@ module _ {y t : List ℕ} {i e j f gone new kept : ℕ} (g : Merging y t i e j f
 
   pub merge-yours : Walked t j f
   merge-yours = record { cuts = g .qs; standing = g .yours }
-
-  pub merge-inside : (i ≤ length y) × (j ≤ length t)
-  merge-inside = (walk-inside (g .mine), walk-inside (g .yours))
 
   -- at the end of one of them
   pub merge-counts : (0 < e → f ≡ 0) → {n m : ℕ} → Ahead y i n → Ahead t j m → Counts y t (gone + n) (new + m) kept

@@ -1,20 +1,21 @@
--- One cut, record by record: what stands at a place, a cut's end, and what two cuts share.
+-- One cut, record by record: what stands at a place, and a cut's end.
 -- Assumes nothing.
 use mathlib.Core.Path.{_≡_, sym, ap, _∙_, subst}
 use mathlib.Core.List.{List, [], _∷_, _++_}
-use Prim.Native.Nat.{ℕ, suc, _+_, _-_, _≤_, _<_}
+use Prim.Native.Nat.{ℕ, suc, _+_, _-_, _*_, _≤_, _<_}
 use native.Mathlib.Decide.{decLt}
 use native.Mathlib.Numerals.{add-one}
 use native.Mathlib.Omega.{arith}
 use lib.ListN.{length, getD, drop, length-append, length-drop}
 use lib.Seq.{drop-cons}
-use Rattle.paper.specs.Limits.{limits}
+use Rattle.paper.specs.Limits.{limits, wideFrom}
 use Rattle.paper.specs.Listing.{memberBytes, cutBytes}
+use Rattle.paper.proofs.Listing.{by-width}
 use Rattle.sidebyside.specs.Members.{RisingFrom}
-use Rattle.sidebyside.specs.OneCut.{CutAt, NoCut, Ends, MemberAt, Ranks, Forks}
-use Rattle.sidebyside.proofs.Coding.{end-bytes, member-front, member-long, member-once, member-no-end, member-is, member-first, end-first, cut-some, members-more}
+use Rattle.sidebyside.specs.OneCut.{CutAt, NoCut, Ends, Ranks}
+use Rattle.sidebyside.proofs.Coding.{end-bytes, end-first, narrow-two, wide-three, member-some, narrow-at, wide-at, kind-narrow, kind-wide, wide-from, wide-number, member-once, member-no-end, member-front, cut-some}
 
-front : (s : List ℕ) (i : ℕ) → i < length s → drop i s ≡ getD s i 0 ∷ drop (i + 1) s
+pub front : (s : List ℕ) (i : ℕ) → i < length s → drop i s ≡ getD s i 0 ∷ drop (i + 1) s
 front s i h = drop-cons s i 0 h ∙ ap (λ (k : ℕ). getD s i 0 ∷ drop k s) (sym (add-one i))
 
 front-two : (s : List ℕ) (i : ℕ) → i + 1 < length s → drop i s ≡ getD s i 0 ∷ getD s (i + 1) 0 ∷ drop (i + 2) s
@@ -22,34 +23,73 @@ front-two s i h =
     let e : i + 1 + 1 ≡ i + 2 = omega arith in
     front s i (omega arith) ∙ ap (λ (l : List ℕ). getD s i 0 ∷ l) (front s (i + 1) h ∙ ap (λ (k : ℕ). getD s (i + 1) 0 ∷ drop k s) e)
 
--- ---- WHAT STANDS AT A PLACE: the record's bytes are known here alone
+front-three : (s : List ℕ) (i : ℕ) → i + 2 < length s → drop i s ≡ getD s i 0 ∷ getD s (i + 1) 0 ∷ getD s (i + 2) 0 ∷ drop (i + 3) s
+front-three s i h =
+    let e : i + 2 + 1 ≡ i + 3 = omega arith in
+    front-two s i (omega arith) ∙ ap (λ (l : List ℕ). getD s i 0 ∷ getD s (i + 1) 0 ∷ l) (front s (i + 2) h ∙ ap (λ (k : ℕ). getD s (i + 2) 0 ∷ drop k s) e)
+
+-- ---- WHAT STANDS AT A PLACE: beside Coding, a member's bytes are known here and in Whole alone
 
 -- no member stands there
-none-at : (s : List ℕ) (i : ℕ) {r : ℕ} → r ≡ limits .events → ((e : ℕ) (rest : List ℕ) → drop i s ≡ memberBytes (e ∷ []) ++ rest → ⊥) → Ranks s i r
-none-at s i {r} z n = record { most = omega arith; stands = λ h. absurd (omega arith); only = λ e rest b q. absurd (n e rest q) }
+none-at : (s : List ℕ) (i : ℕ) {r : ℕ} → r ≡ limits .events → ((e : ℕ) (rest : List ℕ) → e < limits .events → drop i s ≡ memberBytes (e ∷ []) ++ rest → ⊥) → Ranks s i r
+none-at s i {r} z n = record { most = omega arith; stands = λ h. absurd (omega arith); only = λ e rest b q. absurd (n e rest b q) }
+
+-- the member r stands there, in so many bytes
+some-at : (s : List ℕ) (i : ℕ) {r w : ℕ} → r < limits .events → length (memberBytes (r ∷ [])) ≡ w → i + w ≤ length s → drop i s ≡ memberBytes (r ∷ []) ++ drop (i + w) s → Ranks s i r
+some-at s i {r} b l h q = record {
+  most = omega arith;
+  stands = λ _. record { bytes = q ∙ ap (λ (k : ℕ). memberBytes (r ∷ []) ++ drop (i + k) s) (sym l); inside = omega arith };
+  only = λ e rest _ p. member-once r e _ rest (sym q ∙ p) .0;
+}
+
+-- the bytes that a member takes
+pub member-room : (s : List ℕ) (i e : ℕ) (rest : List ℕ) → drop i s ≡ memberBytes (e ∷ []) ++ rest → length (memberBytes (e ∷ [])) ≤ length s - i
+member-room s i e rest q =
+    let a = ap length q ∙ length-append (memberBytes (e ∷ [])) rest in
+    let b = length-drop i s in
+    omega (arith, a, b)
 
 module _ (s : List ℕ) (i : ℕ) where
   pub rank-short : {r : ℕ} → r ≡ limits .events → length s - i < 2 → Ranks s i r
-  rank-short z h = none-at s i z (λ e rest q.
-      let a = ap length q ∙ length-append (memberBytes (e ∷ [])) rest in
-      let b = length-drop i s in
-      let c = member-long e in
-      omega (arith, a, b, c))
+  rank-short z h = none-at s i z (λ e rest _ q. let a = member-room s i e rest q in let b = member-some e in omega (arith, a, b, h))
 
-  pub rank-other : {r : ℕ} → r ≡ limits .events → i < length s → (getD s i 0 ≡ 0x21 → ⊥) → Ranks s i r
-  rank-other z h n = none-at s i z (λ e rest q. n (member-first (getD s i 0) (drop (i + 1) s) e rest (sym (front s i h) ∙ q)))
+  pub rank-other : {r : ℕ} → r ≡ limits .events → i < length s → (getD s i 0 ≡ 0x21 → ⊥) → (getD s i 0 ≡ 0x23 → ⊥) → Ranks s i r
+  rank-other z h n m = none-at s i z (λ e rest _ q.
+      let p = sym (front s i h) ∙ q in
+      by-width e (λ k. n (kind-narrow (getD s i 0) (drop (i + 1) s) e rest k p)) (λ k. m (kind-wide (getD s i 0) (drop (i + 1) s) e rest k p)))
 
-  pub rank-member : {r : ℕ} → i + 1 < length s → getD s i 0 ≡ 0x21 → r ≡ getD s (i + 1) 0 → r < limits .events → Ranks s i r
-  rank-member {r} h k p b = record { most = omega arith; stands = λ _. here; only = λ e rest _ q. member-once r e (drop (i + length (memberBytes (r ∷ []))) s) rest (sym (here .bytes) ∙ q) .0 }
-    where
-      here : MemberAt s i r
-      here =
-          let l = member-long r in
-          let w : i + 2 ≡ i + length (memberBytes (r ∷ [])) = omega arith in
-          record {
-            bytes = front-two s i h ∙ ap (λ (x : ℕ). getD s i 0 ∷ x ∷ drop (i + 2) s) (sym p) ∙ member-is (getD s i 0) r (drop (i + 2) s) k ∙ ap (λ (j : ℕ). memberBytes (r ∷ []) ++ drop j s) w;
-            inside = omega arith;
-          }
+  pub rank-narrow : {r : ℕ} → i + 1 < length s → getD s i 0 ≡ 0x21 → r ≡ getD s (i + 1) 0 → r < wideFrom → Ranks s i r
+  rank-narrow {r} h k p b =
+      some-at s i (omega arith) (narrow-two r b) (omega arith)
+      (front-two s i h ∙ ap (λ (x : ℕ). getD s i 0 ∷ x ∷ drop (i + 2) s) (sym p) ∙ narrow-at (getD s i 0) r (drop (i + 2) s) b k)
+
+  module _ (h : i < length s) (k : getD s i 0 ≡ 0x23) where
+    -- the record is cut off
+    pub rank-cut : {r : ℕ} → r ≡ limits .events → length s - i < 3 → Ranks s i r
+    rank-cut z l = none-at s i z (λ e rest _ q.
+        let a = member-room s i e rest q in
+        let b = wide-three e (wide-from (getD s i 0) (drop (i + 1) s) e rest k (sym (front s i h) ∙ q)) in
+        omega (arith, a, b, l))
+
+    module _ {e : ℕ} (l : 3 ≤ length s - i) (p : e ≡ getD s (i + 1) 0 + 256 * getD s (i + 2) 0) where
+      pub is-number : (f : ℕ) (rest : List ℕ) → drop i s ≡ memberBytes (f ∷ []) ++ rest → f ≡ e
+      is-number f rest q =
+          wide-number (getD s i 0) (getD s (i + 1) 0) (getD s (i + 2) 0) (drop (i + 3) s) f rest k (sym (front-three s i (omega arith)) ∙ q) ∙ sym p
+
+      -- a number that one byte could tell, or one above all
+      pub rank-small : {r : ℕ} → r ≡ limits .events → e < wideFrom → Ranks s i r
+      rank-small z b = none-at s i z (λ f rest _ q.
+          let a = wide-from (getD s i 0) (drop (i + 1) s) f rest k (sym (front s i h) ∙ q) in
+          let c = is-number f rest q in
+          omega (arith, a, c, b))
+
+      pub rank-far : {r : ℕ} → r ≡ limits .events → limits .events ≤ e → Ranks s i r
+      rank-far z b = none-at s i z (λ f rest u q. let c = is-number f rest q in omega (arith, c, b, u))
+
+      pub rank-wide : getD s (i + 1) 0 < 256 → wideFrom ≤ e → e < limits .events → Ranks s i e
+      rank-wide low b u =
+          some-at s i u (wide-three e b) (omega arith)
+          (front-three s i (omega arith) ∙ wide-at (getD s i 0) (getD s (i + 1) 0) (getD s (i + 2) 0) e (drop (i + 3) s) low b k p)
 
 -- ---- what a rank says of a cut
 
@@ -166,7 +206,7 @@ module _ {s : List ℕ} {at low i least e : ℕ} (g : Ending s at low i least e)
 
     module _ {w : ℕ} (q : w ≡ length (memberBytes (e ∷ []))) where
       pub ending-room : (i < i + w) × (i + w ≤ length s)
-      ending-room = let a = g .rank .stands h .inside in let b = member-long e in (omega (arith, q, b), omega (arith, q, a))
+      ending-room = let a = g .rank .stands h .inside in let b = member-some e in (omega (arith, q, b), omega (arith, q, a))
 
       pub ending-step : least ≤ e → {x : ℕ} → Ranks s (i + w) x → Ending s at low (i + w) (e + 1) x
       ending-step l r = record {
@@ -174,59 +214,3 @@ module _ {s : List ℕ} {at low i least e : ℕ} (g : Ending s at low i least e)
         rank = r;
         ends = λ k v. g .ends k (ends-step (g .rank) h l (subst (λ (j : ℕ). Ends (RisingFrom (e + 1)) s (i + j) k) q v));
       }
-
--- ---- what two cuts share
-
--- they agree in the members of k bytes, and behind them the first has this rank
-pub record Sharing (a : List ℕ) (from : ℕ) (b : List ℕ) (start k e : ℕ) : Type 0 where
-  pub members : List ℕ
-  pub first : drop from a ≡ memberBytes members ++ drop (from + k) a
-  pub second : drop start b ≡ memberBytes members ++ drop (start + k) b
-  pub inside : from + k ≤ length a
-  pub within : start + k ≤ length b
-  pub rank : Ranks a (from + k) e
-
-pub share-start : {a : List ℕ} {from : ℕ} {b : List ℕ} {start e : ℕ} → from ≤ length a → start ≤ length b → Ranks a from e → Sharing a from b start 0 e
-unfolding memberBytes
-share-start {a} {from} {b} {start} {e} h l r =
-    let p : from ≡ from + 0 = omega arith in
-    let q : start ≡ start + 0 = omega arith in
-    record {
-      members = [];
-      first = ap (λ (i : ℕ). drop i a) p;
-      second = ap (λ (i : ℕ). drop i b) q;
-      inside = omega arith;
-      within = omega arith;
-      rank = subst (λ (i : ℕ). Ranks a i e) p r;
-    }
-
-module _ {a : List ℕ} {from : ℕ} {b : List ℕ} {start k e : ℕ} (g : Sharing a from b start k e) {f : ℕ} (r : Ranks b (start + k) f) where
-  -- the first has no member here, or the second has another
-  pub share-fork : (e < limits .events → e ≡ f → ⊥) → Forks a from b start k e f
-  share-fork d = record { members = g .members; first = g .first; second = g .second; mine = g .rank; yours = r; differ = d; inside = g .inside; within = g .within }
-
-  module _ (h : e < limits .events) (same : e ≡ f) where
-    share-mine : MemberAt a (from + k) e
-    share-mine = g .rank .stands h
-
-    share-yours : MemberAt b (start + k) e
-    share-yours = subst (λ (x : ℕ). MemberAt b (start + k) x) (sym same) (r .stands (subst (λ (x : ℕ). x < limits .events) same h))
-
-    pub share-room : {w : ℕ} → w ≡ length (memberBytes (e ∷ [])) → (k < k + w) × (from + (k + w) ≤ length a)
-    share-room l = let m = share-mine .inside in let n = member-long e in (omega (arith, l, n), omega (arith, l, m))
-
-    -- the same member in both
-    pub share-step : {w x : ℕ} → w ≡ length (memberBytes (e ∷ [])) → Ranks a (from + (k + w)) x → Sharing a from b start (k + w) x
-    share-step {w} {x} l u =
-        let p : from + k + length (memberBytes (e ∷ [])) ≡ from + (k + w) = omega arith in
-        let q : start + k + length (memberBytes (e ∷ [])) ≡ start + (k + w) = omega arith in
-        let m = share-mine .inside in
-        let n = share-yours .inside in
-        record {
-          members = g .members ++ (e ∷ []);
-          first = g .first ∙ ap (λ (t : List ℕ). memberBytes (g .members) ++ t) (share-mine .bytes ∙ ap (λ (j : ℕ). memberBytes (e ∷ []) ++ drop j a) p) ∙ sym (members-more (g .members) e (drop (from + (k + w)) a));
-          second = g .second ∙ ap (λ (t : List ℕ). memberBytes (g .members) ++ t) (share-yours .bytes ∙ ap (λ (j : ℕ). memberBytes (e ∷ []) ++ drop j b) q) ∙ sym (members-more (g .members) e (drop (start + (k + w)) b));
-          inside = omega (arith, m, p);
-          within = omega (arith, n, q);
-          rank = u;
-        }

@@ -2,7 +2,7 @@
 -- Assumes nothing.
 use mathlib.Core.Bool.{Bool, true, false, cond, _&&_, _||_}
 use mathlib.Core.List.{List, [], _∷_}
-use Prim.Native.Nat.{ℕ, suc}
+use Prim.Native.Nat.{ℕ, suc, _+_, _*_}
 use lib.Dec.{eqb, leb, ltb}
 use Rattle.paper.specs.Limits.{limits}
 use Rattle.paper.specs.Lists.{every}
@@ -14,11 +14,33 @@ unfoldable pub push : ℕ → List (List ℕ) → List (List ℕ)
 push e [] = (e ∷ []) ∷ []
 push e (c ∷ cs) = (e ∷ c) ∷ cs
 
+-- where a byte stands: it is a kind, a member's one byte, the low one of two, or the high one behind this low one
+pub data Place : Type 0 where
+  kind : Place
+  one : Place
+  low : Place
+  high : ℕ → Place
+
+abbrev pub after : Place → ℕ → Place
+after kind x = cond (eqb x 0x22) kind (cond (eqb x 0x23) low one)
+after one x = kind
+after low x = high x
+after (high l) x = kind
+
+-- what a byte adds to the cuts of the bytes behind it: an end, a member, or nothing
+abbrev pub added : Place → ℕ → List (List ℕ) → List (List ℕ)
+added kind x cs = cond (eqb x 0x22) ([] ∷ cs) cs
+added one x cs = push x cs
+added low x cs = cs
+added (high l) x cs = push (l + 256 * x) cs
+
+unfoldable pub cutsFrom : Place → List ℕ → List (List ℕ)
+cutsFrom p [] = []
+cutsFrom p (x ∷ s) = added p x (cutsFrom (after p x) s)
+
 -- the cuts that bytes tell, where they are those of a listing
-unfoldable pub cutsOf : List ℕ → List (List ℕ)
-cutsOf [] = []
-cutsOf (x ∷ []) = [] ∷ []
-cutsOf (x ∷ e ∷ s) = cond (eqb x 0x22) ([] ∷ cutsOf (e ∷ s)) (push e (cutsOf s))
+abbrev pub cutsOf : List ℕ → List (List ℕ)
+cutsOf s = cutsFrom kind s
 
 unfoldable pub risingFrom : ℕ → List ℕ → Bool
 risingFrom m [] = true

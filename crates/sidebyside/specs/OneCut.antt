@@ -30,6 +30,14 @@ pub record Ends (Q : List ℕ → Type 0) (s : List ℕ) (i r : ℕ) : Type 0 wh
 abbrev pub RisesAt : List ℕ → ℕ → ℕ → Type 0
 RisesAt s i r = CutAt (RisingFrom 0) s i r
 
+-- a cut stands at i
+pub record Whole (s : List ℕ) (i : ℕ) : Type 0 where
+  pub cut : List ℕ
+  pub rest : List ℕ
+  pub low : ℕ
+  pub is : RisingFrom low cut
+  pub bytes : drop i s ≡ cutBytes cut ++ rest
+
 -- the record of member e stands at i, whole
 pub record MemberAt (s : List ℕ) (i e : ℕ) : Type 0 where
   pub bytes : drop i s ≡ memberBytes (e ∷ []) ++ drop (i + length (memberBytes (e ∷ []))) s

@@ -1,16 +1,21 @@
-// One cut of a listing, and two beside each other. A member's record is read in `rank` and `width` alone.
+// One cut of a listing, and two beside each other. A member's record is read in `rank` and `member`, and `width` has its length.
 ghost use mathlib.Core.Path.{_≡_};
 ghost use mathlib.Core.List.{[], _∷_};
-ghost use Prim.Native.Nat.{_+_, _≤_};
-ghost use lib.ListN.{length, drop};
+ghost use Prim.Native.Nat.{_+_, _*_, _≤_, _<_};
+ghost use lib.ListN.{length, getD, drop};
 ghost use Rattle.paper.specs.Listing.{memberBytes};
 ghost use Rattle.sidebyside.specs.Members.{RisingFrom};
-ghost use Rattle.sidebyside.specs.OneCut.{RisesAt, Ends, Ranks, Forks, Follows, Orders};
+ghost use Rattle.sidebyside.specs.OneCut.{RisesAt, Whole, Ends, Ranks, Forks, Follows, Orders};
 
-// The kinds of a listing's records: a member, with one byte of event, and the end of a cut.
+// The kinds of a listing's records: a member with one byte of event, the end of a cut, and a member with two bytes.
 const MEMBER: u8 = 0x21;
 
 const END: u8 = 0x22;
+
+const WIDE: u8 = 0x23;
+
+// The first event whose member has two.
+const FIRST_WIDE: usize = paper::WIDE_FROM as usize;
 
 // Which of two cuts stands first in the order of listings.
 pub enum Earlier {
@@ -19,10 +24,35 @@ pub enum Earlier {
     Second,
 }
 
-fn wide(x: u8) -> usize
+// The number in one byte, and in two.
+fn narrow_number(x: u8) -> usize
     ensures { λ r. ⌜ r ≡ x ⌝ }
 {
     x as usize
+}
+
+fn wide_number(low: u8, high: u8) -> usize
+    ensures { λ r. ⌜ r ≡ low + 256 * high ⌝ }
+{
+    (low as usize) + 256 * (high as usize)
+}
+
+// The rank of what stands at `i`, a record of kind 23: such a member's number is one that takes two bytes.
+fn wide_rank(s: &[u8], i: usize) -> usize
+    requires { ⌜ (i < length (now s)) × (getD (now s) i 0 ≡ 0x23) ⌝ }
+    ensures { λ r. ⌜ Ranks (now (s .entry)) i r ⌝ }
+{
+    if s.len() - i < 3 {
+        return paper::EVENTS;
+    }
+    let e = wide_number(s[i + 1], s[i + 2]);
+    if e < FIRST_WIDE {
+        return paper::EVENTS;
+    }
+    if paper::EVENTS <= e {
+        return paper::EVENTS;
+    }
+    e
 }
 
 // The rank of what stands at `i`: a member has its number, and all else, a cut's end too, comes behind every member.
@@ -33,16 +63,36 @@ fn rank(s: &[u8], i: usize) -> usize
     if s.len() - i < 2 {
         return paper::EVENTS;
     }
-    if s[i] != MEMBER {
-        return paper::EVENTS;
+    if s[i] == MEMBER {
+        return narrow_number(s[i + 1]);
     }
-    wide(s[i + 1])
+    if s[i] == WIDE {
+        return wide_rank(s, i);
+    }
+    paper::EVENTS
+}
+
+// The same where a whole cut is known to stand: nothing is judged.
+fn member(s: &[u8], i: usize) -> usize
+    requires { ⌜ Whole (now s) i ⌝ }
+    ensures { λ r. ⌜ Ranks (now (s .entry)) i r ⌝ }
+{
+    if s[i] == MEMBER {
+        return narrow_number(s[i + 1]);
+    }
+    if s[i] == WIDE {
+        return wide_number(s[i + 1], s[i + 2]);
+    }
+    paper::EVENTS
 }
 
 // The bytes of a member's record.
 fn width(e: usize) -> usize
     ensures { λ r. ⌜ r ≡ length (memberBytes (e ∷ [])) ⌝ }
 {
+    if FIRST_WIDE <= e {
+        return 3;
+    }
     2
 }
 
@@ -53,14 +103,14 @@ pub struct Fork {
     pub second: usize,
 }
 
-// The members in which what stands at `from` and at `start` agrees.
+// The members in which the cut at `from` and what stands at `start` agree.
 fn common(a: &[u8], from: usize, b: &[u8], start: usize) -> Fork
-    requires { ⌜ (from ≤ length (now a)) × (start ≤ length (now b)) ⌝ }
+    requires { ⌜ Whole (now a) from × (start ≤ length (now b)) ⌝ }
     ensures { λ r. ⌜ Forks (now (a .entry)) from (now (b .entry)) start (r .bytes) (r .first) (r .second) ⌝ }
 {
     let mut bytes: usize = 0;
-    let mut first = rank(a, from);
-    while first < paper::EVENTS {
+    loop {
+        let first = member(a, from + bytes);
         let second = rank(b, start + bytes);
         if first != second {
             return Fork {
@@ -69,14 +119,14 @@ fn common(a: &[u8], from: usize, b: &[u8], start: usize) -> Fork
                 second,
             };
         }
+        if paper::EVENTS <= first {
+            return Fork {
+                bytes,
+                first,
+                second,
+            };
+        }
         bytes += width(first);
-        first = rank(a, from + bytes);
-    }
-    let second = rank(b, start + bytes);
-    Fork {
-        bytes,
-        first,
-        second,
     }
 }
 
@@ -127,15 +177,22 @@ pub fn next(s: &[u8], last: usize, at: usize) -> usize
 
 // The order of two cuts.
 pub fn order(a: &[u8], from: usize, b: &[u8], start: usize) -> Earlier
-    requires { ⌜ (from ≤ length (now a)) × (start ≤ length (now b)) ⌝ }
+    requires { ⌜ Whole (now a) from × Whole (now b) start ⌝ }
     ensures { λ r. ⌜ Orders (drop from (now (a .entry))) (drop start (now (b .entry))) r ⌝ }
 {
-    let f = common(a, from, b, start);
-    if f.first < f.second {
-        return Earlier::First;
+    let mut bytes: usize = 0;
+    loop {
+        let first = member(a, from + bytes);
+        let second = member(b, start + bytes);
+        if first < second {
+            return Earlier::First;
+        }
+        if second < first {
+            return Earlier::Second;
+        }
+        if paper::EVENTS <= first {
+            return Earlier::Same;
+        }
+        bytes += width(first);
     }
-    if f.second < f.first {
-        return Earlier::Second;
-    }
-    Earlier::Same
 }

@@ -4,15 +4,28 @@ use decimals::put;
 ghost use mathlib.Core.Path.{_≡_};
 ghost use Prim.Native.Nat.{_+_, _*_, _≤_};
 ghost use lib.ListN.{length, take};
-ghost use Rattle.text.specs.Places.{Front, said, after, spelled};
+ghost use Rattle.text.specs.Places.{Front, said, fromKind, after, spelled};
 ghost use Rattle.decimals.specs.Places.{Put};
 ghost use Rattle.text.specs.declared.cuts.Place.the-variants.{Start};
 
-// Where a byte stands: at the start of a cut, behind kind 21, or behind a member.
+// The kinds of a listing's records: the end of a cut, and a member with two bytes of event; any other has one.
+const END: u8 = 0x22;
+
+const WIDE: u8 = 0x23;
+
+// Where a byte stands: at the start of a cut, behind kind 21, behind kind 23, behind this low byte of a number, or behind a member.
 pub enum Place {
     Start,
     Event,
+    Low,
+    High(u8),
     Behind,
+}
+
+fn wide_number(low: u8, high: u8) -> u64
+    ensures { λ r. ⌜ r ≡ low + 256 * high ⌝ }
+{
+    (low as u64) + 256 * (high as u64)
 }
 
 // Puts what a byte adds to the text.
@@ -22,19 +35,34 @@ fn put_byte(text: &mut [u8], at: usize, place: Place, b: u8) -> usize
 {
     match place {
         Place::Start => {
-            if b == 0x21 {
-                return at;
+            if b == END {
+                return put(text, at, b"\n");
             }
-            put(text, at, b"\n")
+            at
         }
         Place::Event => put_number(text, at, b as u64),
+        Place::Low => at,
+        Place::High(low) => put_number(text, at, wide_number(low, b)),
         Place::Behind => {
-            if b == 0x21 {
-                return put(text, at, b" ");
+            if b == END {
+                return put(text, at, b"\n");
             }
-            put(text, at, b"\n")
+            put(text, at, b" ")
         }
     }
+}
+
+// The place behind a kind.
+fn from_kind(b: u8) -> Place
+    ensures { λ r. ⌜ r ≡ fromKind b ⌝ }
+{
+    if b == END {
+        return Place::Start;
+    }
+    if b == WIDE {
+        return Place::Low;
+    }
+    Place::Event
 }
 
 // The place behind a byte.
@@ -42,19 +70,11 @@ fn behind(place: Place, b: u8) -> Place
     ensures { λ r. ⌜ r ≡ after place b ⌝ }
 {
     match place {
-        Place::Start => {
-            if b == 0x21 {
-                return Place::Event;
-            }
-            Place::Start
-        }
+        Place::Start => from_kind(b),
         Place::Event => Place::Behind,
-        Place::Behind => {
-            if b == 0x21 {
-                return Place::Event;
-            }
-            Place::Start
-        }
+        Place::Low => Place::High(b),
+        Place::High(low) => Place::Behind,
+        Place::Behind => from_kind(b),
     }
 }
 

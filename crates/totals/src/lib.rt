@@ -4,6 +4,7 @@ ghost use mathlib.Core.Bool.{true};
 ghost use Prim.Native.Nat.{_≤_};
 ghost use lib.ListN.{length, replicate};
 ghost use Rattle.paper.specs.Limits.{limits};
+ghost use Rattle.paper.specs.Answers.{Unwritten};
 ghost use Rattle.paper.specs.Lists.{sum};
 ghost use Rattle.paper.specs.Sizes.{sizes as sizeCount};
 ghost use Rattle.tables.specs.Flags.{Says};
@@ -146,17 +147,30 @@ pub fn add_tree(
 
 // ---- the end
 
-// Whether it is the first tree's own 1 to 9, so that nothing was written yet.
-pub fn at_once(refusal: u8, tree: usize) -> bool
-    ensures { λ r. ⌜ Says r ((tree ≡ 0) × (1 ≤ refusal) × (refusal ≤ 9)) ⌝ }
+// Whether an analysis with this number has written nothing: 1 to 8 and 21, of its reading, and 9.
+fn is_unwritten(refusal: u8) -> bool
+    ensures { λ r. ⌜ Says r (Unwritten refusal) ⌝ }
 {
-    if tree != 0 {
-        return false;
+    if refusal == 21 {
+        return true;
     }
     if refusal == 0 {
         return false;
     }
     if 9 < refusal {
+        return false;
+    }
+    true
+}
+
+// Whether it is the first tree's own and came before anything was written.
+pub fn at_once(refusal: u8, tree: usize) -> bool
+    ensures { λ r. ⌜ Says r ((tree ≡ 0) × Unwritten refusal) ⌝ }
+{
+    if tree != 0 {
+        return false;
+    }
+    if !is_unwritten(refusal) {
         return false;
     }
     true

@@ -3,18 +3,18 @@
 use mathlib.Core.Path.{_≡_, refl}
 use mathlib.Core.List.{List, [], _∷_, _++_, map}
 use Prim.Native.Nat.{ℕ, zero, suc, _+_, _*_, _/_, _%_}
-use Rattle.paper.specs.Limits.{limits}
+use Rattle.paper.specs.Limits.{limits, oldLimits, mostBytes}
 use Rattle.paper.specs.Answers.{Verdict}
 use Rattle.rules.specs.Format.{recordOf, bodyOf}
 use Rattle.rules.specs.Rules.{admitOf, stepOf}
 use Rattle.records.specs.Thresholds.{starvedBy}
 use Rattle.records.specs.Uses.{among, lowestUnused, unusedOf}
 use Rattle.records.specs.Judge.{judge, outcome, run, nextStep, closeOf}
-use Rattle.rules.specs.declared.Answer.the-variants.{Count}
+use Rattle.rules.specs.declared.Answer.the-variants.{Count, Narrow, Reference}
 use Rattle.rules.specs.declared.format.Record.{Record}
-use Rattle.rules.specs.declared.format.Record.the-variants.{Gate}
+use Rattle.rules.specs.declared.format.Record.the-variants.{Event, Gate, EventInput, WideInput}
 use Rattle.rules.specs.declared.judge.Step.{Step}
-use Rattle.rules.specs.declared.judge.Step.the-variants.{AddGate, Refused}
+use Rattle.rules.specs.declared.judge.Step.the-variants.{AddEvent, AddGate, AddInput, Refused}
 
 record Row : Type 0 where
   bytes : List ℕ
@@ -32,12 +32,15 @@ abbrev each : ℕ → ℕ → (ℕ → List ℕ) → List ℕ
 each zero i f = []
 each (suc n) i f = f i ++ each n (i + 1) f
 
--- an event of chance 0, the inputs of event e and of gate g, and the end
+-- an event of chance 0, the inputs of event e, by one byte and by two, and of gate g, and the end
 abbrev event : List ℕ
 event = 1 ∷ 0 ∷ 0 ∷ 0 ∷ 0 ∷ []
 
 abbrev eventIn : ℕ → List ℕ
 eventIn e = 5 ∷ e ∷ []
+
+abbrev wideIn : ℕ → List ℕ
+wideIn e = 8 ∷ e % 256 ∷ e / 256 ∷ []
 
 abbrev gateIn : ℕ → List ℕ
 gateIn g = 6 ∷ g % 256 ∷ g / 256 ∷ []
@@ -49,18 +52,22 @@ end = 7 ∷ []
 abbrev ors : ℕ → List ℕ
 ors n = 3 ∷ n ∷ times n (eventIn 0)
 
--- 256 events; each in one of four gates, which are the root's
-abbrev events256 : List ℕ
-events256 = times 256 event
-    ++ (each 4 0 (λ g. 3 ∷ 64 ∷ each 64 (64 * g) eventIn) ++ (2 ∷ 4 ∷ each 4 0 gateIn))
+-- n events, the first 256 of them each in one of four gates
+abbrev first256 : ℕ → List ℕ
+first256 n = times n event ++ each 4 0 (λ g. 3 ∷ 64 ∷ each 64 (64 * g) eventIn)
+
+-- a root over these and as many events, of two bytes each, from 256 on
+abbrev rooted : ℕ → List ℕ
+rooted more = 2 ∷ (4 + more) ∷ (each 4 0 gateIn ++ (each more 256 wideIn ++ end))
 
 abbrev table : List Row
 table =
-    -- 64 inputs to a gate, 256 events
+    -- 64 inputs to a gate; events 255, 256 and 257
     row (event ++ (ors 64 ++ end)) 0 0
     ∷ row (event ++ (ors 65 ++ end)) 4 5
-    ∷ row (events256 ++ end) 0 0
-    ∷ row (event ++ (events256 ++ end)) 4 1280
+    ∷ row (first256 256 ++ rooted 0) 0 0
+    ∷ row (first256 257 ++ rooted 0) 8 1280
+    ∷ row (first256 258 ++ rooted 2) 0 0
     -- chance D, and k of n: of three inputs that are distinct, and of two that are
     ∷ row (1 ∷ 0x00 ∷ 0xCA ∷ 0x9A ∷ 0x3B ∷ (ors 1 ++ end)) 0 0
     ∷ row (1 ∷ 0x01 ∷ 0xCA ∷ 0x9A ∷ 0x3B ∷ (ors 1 ++ end)) 7 0
@@ -70,37 +77,60 @@ table =
     ∷ row (times 2 event ++ (4 ∷ 3 ∷ 3 ∷ (eventIn 1 ++ (each 2 0 eventIn ++ end)))) 5 10
     ∷ []
 
--- THE LIMITS of a gate's inputs, of events, of a chance and of k
+-- THE LIMITS of a gate's inputs, of what a byte names, of a chance and of k
 at-and-beyond : map (λ (r : Row). judge limits (r .bytes)) table ≡ map (λ (r : Row). r .answer) table
 unfolding judge outcome run nextStep starvedBy stepOf recordOf bodyOf closeOf unusedOf lowestUnused among
 at-and-beyond = refl
 
--- a record met where so many gates and inputs are there, each gate having its inputs
+-- AN OLD READER takes 256 events, and stops at the 257th
+abbrev old-table : List Row
+old-table =
+    row (first256 256 ++ rooted 0) 0 0
+    ∷ row (first256 257 ++ rooted 0) 4 1280
+    ∷ row (first256 258 ++ rooted 2) 4 1280
+    ∷ []
+
+old-reader : map (λ (r : Row). judge oldLimits (r .bytes)) old-table ≡ map (λ (r : Row). r .answer) old-table
+unfolding judge outcome run nextStep starvedBy stepOf recordOf bodyOf closeOf unusedOf lowestUnused among
+old-reader = refl
+
+-- a record met where so many events, gates and inputs are there, and so many inputs of the last gate to come
 record Met : Type 0 where
+  events : ℕ
   gates : ℕ
   inputs : ℕ
+  left : ℕ
   next : Record
   step : Step
 
-abbrev met : ℕ → ℕ → Record → Step → Met
-met gates inputs next step = record { gates = gates; inputs = inputs; next = next; step = step }
+abbrev met : ℕ → ℕ → ℕ → ℕ → Record → Step → Met
+met events gates inputs left next step = record { events = events; gates = gates; inputs = inputs; left = left; next = next; step = step }
 
--- what it does: of one event, at place 9
+-- what it does, at place 9
 abbrev does : Met → Step
-does m = admitOf limits 16384 (record { at = 9; events = 1; gates = m .gates; inputs = m .inputs; left = 0 }) (m .next)
+does m = admitOf limits mostBytes (record { at = 9; events = m .events; gates = m .gates; inputs = m .inputs; left = m .left }) (m .next)
 
 abbrev steps : List Met
 steps =
+    -- the 1,024th event, and the 1,025th
+    met 1023 0 0 0 (Event 5) (AddEvent 5 14)
+    ∷ met 1024 0 0 0 (Event 5) (Refused (Count 9))
+    -- the last event named by one byte, the first by two, and the last of all
+    ∷ met 1024 1 0 1 (EventInput 255) (AddInput 255 11)
+    ∷ met 1024 1 0 1 (WideInput 255) (Refused (Narrow 9))
+    ∷ met 1024 1 0 1 (WideInput 256) (AddInput 256 12)
+    ∷ met 1024 1 0 1 (WideInput 1023) (AddInput 1023 12)
+    ∷ met 1024 1 0 1 (WideInput 1024) (Refused (Reference 9))
     -- the 512th gate, and the 513th
-    met 511 511 (Gate 2 0 1) (AddGate 2 0 1 11)
-    ∷ met 512 512 (Gate 2 0 1) (Refused (Count 9))
+    ∷ met 1 511 511 0 (Gate 2 0 1) (AddGate 2 0 1 11)
+    ∷ met 1 512 512 0 (Gate 2 0 1) (Refused (Count 9))
     -- 4,096 inputs in all, and 4,097
-    ∷ met 63 4032 (Gate 2 0 64) (AddGate 2 0 64 11)
-    ∷ met 63 4033 (Gate 2 0 64) (Refused (Count 9))
-    ∷ met 64 4095 (Gate 2 0 1) (AddGate 2 0 1 11)
-    ∷ met 64 4096 (Gate 2 0 1) (Refused (Count 9))
+    ∷ met 1 63 4032 0 (Gate 2 0 64) (AddGate 2 0 64 11)
+    ∷ met 1 63 4033 0 (Gate 2 0 64) (Refused (Count 9))
+    ∷ met 1 64 4095 0 (Gate 2 0 1) (AddGate 2 0 1 11)
+    ∷ met 1 64 4096 0 (Gate 2 0 1) (Refused (Count 9))
     ∷ []
 
--- THE LIMITS of gates and of inputs in all, at the record that meets them; trees that have so many are run in crate reading
-gates-and-inputs : map does steps ≡ map (λ (m : Met). m .step) steps
-gates-and-inputs = refl
+-- THE LIMITS of events, of gates and of inputs in all, at the record that meets them; trees that have so many are run in crate reading
+at-a-record : map does steps ≡ map (λ (m : Met). m .step) steps
+at-a-record = refl

@@ -127,12 +127,12 @@ module _ {b : Book} (l : Lawful limits b) where
         end-welcome s (length (bytesOf (memory b))) none (omega (arith, ends, length-drop (s .at) (bytesOf (memory b))))
         (omega (arith, events-in b, l .someEvent)) (omega (arith, gates-in b, l .someGate))
 
-    taken : Taken (recordOf (drop (x .at) (bytesOf (memory b))))
+    taken : Taken (recordOf true (drop (x .at) (bytesOf (memory b))))
     taken = rw (there (memory b) x v)
         (which (memory b) s Taken event-taken input-taken (λ h none more. gate-taken none more) end-taken)
 
     -- an input leaves the last gate with b's k and the front of b's inputs
-    input-fed : {i next : ℕ} → OnInput (length (bytesOf (memory b))) s (recordOf (drop (x .at) (bytesOf (memory b)))) i next → starved (addInput x i next) ≡ false
+    input-fed : {i next : ℕ} → OnInput (length (bytesOf (memory b))) s (recordOf true (drop (x .at) (bytesOf (memory b)))) i next → starved (addInput x i next) ≡ false
     input-fed {i} {next} on =
         let g : ℕ = s .gates - 1 in
         let gates : 1 ≤ s .gates = some-gate (on .some) in
@@ -165,7 +165,7 @@ module _ {b : Book} (l : Lawful limits b) where
     same : SameTree b book
 
   close-ends : (turns : ℕ) (x : Book) → Kept x → Along (memory b) x → nextStep limits own x ≡ Close
-      → Sound (length own) (counts x) (recordOf (drop (x .at) own)) Close → Ends (suc turns) x
+      → Sound (length own) (counts x) (recordOf true (drop (x .at) own)) Close → Ends (suc turns) x
   close-ends turns x k v q on =
       let (allEvents, none, allGates) = is-end (memory b) (counts x) (ap tag (sym (there (memory b) x v) ∙ on .shape)) in
       let same : SameTree b x = same-tree l v k (omega (arith, events-in b)) (omega (arith, gates-in b)) none in
@@ -173,7 +173,7 @@ module _ {b : Book} (l : Lawful limits b) where
 
   ends-step : (turns : ℕ) (x : Book) → Kept x → Along (memory b) x → length own - x .at ≤ suc turns
       → ((y : Book) → Kept y → Along (memory b) y → y .at ≤ length own → length own - y .at ≤ turns → Ends (suc turns) y)
-      → (z : Step) → nextStep limits own x ≡ z → Sound (length own) (counts x) (recordOf (drop (x .at) own)) z → Welcome z → Ends (suc (suc turns)) x
+      → (z : Step) → nextStep limits own x ≡ z → Sound (length own) (counts x) (recordOf true (drop (x .at) own)) z → Welcome z → Ends (suc (suc turns)) x
   ends-step turns x k v h on (AddEvent c next) q s w =
       let e = on (addEvent x c next) (kept-event k s) (along-event (memory b) x v c next s) (s .inside) (omega (arith, s .further)) in
       record { book = e .book; is = run-event (suc turns) own x c next q ∙ e .is; same = e .same }
@@ -194,7 +194,7 @@ module _ {b : Book} (l : Lawful limits b) where
   unfolding nextStep
   step-taken x k v a = go (stepOf limits own (counts x)) (rules-take x k v) (sound-step own (counts x) a)
     where
-      go : (z : Step) → Welcome z → Sound (length own) (counts x) (recordOf (drop (x .at) own)) z → Welcome (thresholdStep x z)
+      go : (z : Step) → Welcome z → Sound (length own) (counts x) (recordOf true (drop (x .at) own)) z → Welcome (thresholdStep x z)
       go (AddEvent c next) w s = tt
       go (AddGate kind j n next) w s = tt
       go (AddInput i next) w s = rw (input-fed k v s) tt
@@ -203,7 +203,7 @@ module _ {b : Book} (l : Lawful limits b) where
 
   -- the last byte is the end record's
   ends-last : (x : Book) → Kept x → Along (memory b) x → x .at ≤ length own → length own - x .at ≤ 0
-      → (z : Step) → nextStep limits own x ≡ z → Sound (length own) (counts x) (recordOf (drop (x .at) own)) z → Welcome z → Ends 1 x
+      → (z : Step) → nextStep limits own x ≡ z → Sound (length own) (counts x) (recordOf true (drop (x .at) own)) z → Welcome z → Ends 1 x
   ends-last x k v a h (AddEvent c next) q s w = absurd (omega (arith, s .further, s .inside))
   ends-last x k v a h (AddGate kind j n next) q s w = absurd (omega (arith, s .further, s .inside))
   ends-last x k v a h (AddInput i next) q s w = absurd (omega (arith, s .further, s .inside))

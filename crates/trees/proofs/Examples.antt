@@ -3,7 +3,7 @@
 use mathlib.Core.Path.{_≡_, refl}
 use mathlib.Core.List.{List, [], _∷_, _++_, map}
 use Prim.Native.Nat.{ℕ}
-use Rattle.paper.specs.Limits.{limits}
+use Rattle.paper.specs.Limits.{limits, oldLimits}
 use Rattle.paper.specs.Answers.{Verdict}
 use Rattle.rules.specs.Format.{recordOf, bodyOf}
 use Rattle.rules.specs.Rules.{stepOf}
@@ -28,6 +28,9 @@ tenth = 1 ∷ 0x00 ∷ 0xE1 ∷ 0xF5 ∷ 0x05 ∷ []
 abbrev certain : List ℕ
 certain = 1 ∷ 0x00 ∷ 0xCA ∷ 0x9A ∷ 0x3B ∷ []
 
+abbrev three : List ℕ
+three = ev ++ (ev ++ ev)
+
 abbrev case1 : List ℕ
 case1 = tenth ++ (tenth ++ (tenth ++ (
     2 ∷ 2 ∷ 5 ∷ 0 ∷ 5 ∷ 1 ∷
@@ -39,7 +42,7 @@ table =
     row case1 0 0
     ∷ row (case1 ++ (7 ∷ [])) 3 36
     ∷ row [] 1 0
-    ∷ row (8 ∷ []) 2 0
+    ∷ row (9 ∷ []) 2 0
     ∷ row (5 ∷ []) 1 0
     ∷ row (5 ∷ 0 ∷ []) 3 0
     ∷ row (7 ∷ []) 4 0
@@ -73,8 +76,31 @@ table =
     ∷ row (ev ++ (ev ++ (2 ∷ 1 ∷ 5 ∷ 0 ∷ 7 ∷ []))) 8 5
     ∷ row (ev ++ (2 ∷ 1 ∷ 5 ∷ 0 ∷ 2 ∷ 1 ∷ 5 ∷ 0 ∷ 7 ∷ [])) 8 5
     ∷ row (certain ++ (2 ∷ 1 ∷ 5 ∷ 0 ∷ 7 ∷ [])) 0 0
+    -- kind 08: 1, then 3, then 21, whether the event is there or not, then 6
+    ∷ row (three ++ (2 ∷ 1 ∷ 8 ∷ 5 ∷ [])) 1 17
+    ∷ row (three ++ (8 ∷ 5 ∷ 0 ∷ [])) 3 15
+    ∷ row (three ++ (2 ∷ 1 ∷ 5 ∷ 0 ∷ 8 ∷ 5 ∷ 0 ∷ [])) 3 19
+    ∷ row (three ++ (2 ∷ 1 ∷ 8 ∷ 5 ∷ 0 ∷ [])) 21 17
+    ∷ row (three ++ (2 ∷ 1 ∷ 8 ∷ 2 ∷ 0 ∷ [])) 21 17
+    ∷ row (three ++ (2 ∷ 1 ∷ 8 ∷ 255 ∷ 0 ∷ [])) 21 17
+    ∷ row (three ++ (2 ∷ 1 ∷ 8 ∷ 0 ∷ 1 ∷ [])) 6 17
     ∷ []
 
 vectors : map (λ (r : Row). judge limits (r .bytes)) table ≡ map (λ (r : Row). r .answer) table
 unfolding judge outcome run nextStep starvedBy stepOf recordOf bodyOf closeOf unusedOf lowestUnused among
 vectors = refl
+
+-- AN OLD READER knows no kind 08, whatever follows it and wherever it stands
+abbrev old-table : List Row
+old-table =
+    row case1 0 0
+    ∷ row (8 ∷ []) 2 0
+    ∷ row (three ++ (2 ∷ 1 ∷ 8 ∷ 5 ∷ [])) 2 17
+    ∷ row (three ++ (8 ∷ 5 ∷ 0 ∷ [])) 2 15
+    ∷ row (three ++ (2 ∷ 1 ∷ 8 ∷ 5 ∷ 0 ∷ [])) 2 17
+    ∷ row (three ++ (2 ∷ 1 ∷ 8 ∷ 0 ∷ 1 ∷ [])) 2 17
+    ∷ []
+
+old-vectors : map (λ (r : Row). judge oldLimits (r .bytes)) old-table ≡ map (λ (r : Row). r .answer) old-table
+unfolding judge outcome run nextStep starvedBy stepOf recordOf bodyOf closeOf unusedOf lowestUnused among
+old-vectors = refl

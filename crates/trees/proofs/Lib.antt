@@ -13,3 +13,4 @@ pub mod Exactly
 pub mod Examples
 pub mod Cases
 pub mod AtLimits
+pub mod Old

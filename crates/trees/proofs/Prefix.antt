@@ -1,6 +1,7 @@
 -- Input that is longer than any tree is decided by its first bytes.
 -- Assumes nothing.
 use mathlib.Core.Path.{_≡_, refl, sym, ap, _∙_}
+use mathlib.Core.Bool.{true}
 use mathlib.Core.List.{List}
 use Prim.Native.Nat.{ℕ, zero, suc, _+_, _-_, _≤_, _<_}
 use native.Mathlib.Omega.{arith}
@@ -9,12 +10,13 @@ use lib.ListN.{length, getD, take, drop, length-drop}
 use lib.Seq.{getD-drop, getD-take, length-take-le, take-all}
 use lib.Dec.{ltb}
 use borrow.Author.Tests.{lt-ltb, le-ltb, ne-eqb, ltb-true, ltb-false}
-use Rattle.paper.specs.Limits.{limits}
+use Rattle.paper.specs.Limits.{limits, mostBytes}
 use Rattle.rules.specs.Format.{byte, lengthOf, bodyOf, recordOf}
+use Rattle.rules.specs.Longest.{longestRun}
 use Rattle.rules.specs.Rules.{admitOf, stepOf}
 use Rattle.records.specs.Judge.{Book, start, counts, addEvent, addGate, addInput, thresholdStep, nextStep, run, outcome, judge}
 use Rattle.rules.specs.declared.format.Record.{Record}
-use Rattle.rules.specs.declared.format.Record.the-variants.{Missing, Unknown, Short, Event, Gate, EventInput, GateInput, End}
+use Rattle.rules.specs.declared.format.Record.the-variants.{Missing, Unknown, Short, Event, Gate, EventInput, GateInput, WideInput, End}
 use Rattle.rules.specs.declared.judge.State.{State}
 use Rattle.rules.specs.declared.judge.Step.{Step}
 use Rattle.rules.specs.declared.judge.Step.the-variants.{AddEvent, AddGate, AddInput, Close, Refused}
@@ -24,7 +26,7 @@ use Rattle.records.proofs.Keeping.{Kept, kept-start, kept-event, kept-gate, kep
 use Rattle.records.proofs.Runs.{run-event, run-gate, run-input, run-close, run-refused, sound-next, next-fed}
 
 -- five bytes decide what record it is
-record-agree : (l m : List ℕ) → 5 ≤ length l → 5 ≤ length m → ((i : ℕ) → i < 5 → getD l i 0 ≡ getD m i 0) → recordOf l ≡ recordOf m
+record-agree : (l m : List ℕ) → 5 ≤ length l → 5 ≤ length m → ((i : ℕ) → i < 5 → getD l i 0 ≡ getD m i 0) → recordOf true l ≡ recordOf true m
 unfolding recordOf bodyOf
 record-agree l m hl hm same =
     let five : lengthOf (byte m 0) ≤ 5 = length-small (byte m 0) in
@@ -40,12 +42,12 @@ record-agree l m hl hm same =
       same 4 (omega arith),
     ))
 
-not-missing : (l : List ℕ) → 1 ≤ length l → recordOf l ≡ Missing → ⊥
+not-missing : (l : List ℕ) → 1 ≤ length l → recordOf true l ≡ Missing → ⊥
 not-missing l h =
     let P : Record → Type 0 = λ r. r ≡ Missing → ⊥ in
     let never : _≡_ {A = ℕ} 0 1 → ⊥ = λ z. omega arith in
     front l P (λ e p. omega arith) (λ _ p. never (cc)) (λ _ _ p. never (cc))
-    (λ _ some _. known l (λ _ _ r. P r) (λ p. never (cc)) (λ p. never (cc)) (λ p. never (cc)) (λ p. never (cc)) (λ p. never (cc)) (λ p. never (cc)) (λ p. never (cc)) (byte l 0) some)
+    (λ _ some _. known l (λ _ _ r. P r) (λ p. never (cc)) (λ p. never (cc)) (λ p. never (cc)) (λ p. never (cc)) (λ p. never (cc)) (λ p. never (cc)) (λ p. never (cc)) (λ p. never (cc)) (byte l 0) some)
 
 admit-agree : (len len′ : ℕ) (s : State) (r : Record) → (r ≡ Missing → ⊥) → s .at + 1 < len → s .at + 1 < len′ → admitOf limits len s r ≡ admitOf limits len′ s r
 admit-agree len len′ s Missing h a b = absurd (h refl)
@@ -55,9 +57,14 @@ admit-agree len len′ s (Event c) h a b = refl
 admit-agree len len′ s (Gate kind k n) h a b = refl
 admit-agree len len′ s (EventInput e) h a b = refl
 admit-agree len len′ s (GateInput g) h a b = refl
+admit-agree len len′ s (WideInput e) h a b = refl
 admit-agree len len′ s End h a b = rw (lt-ltb _ _ a, lt-ltb _ _ b)
 
-module _ (bytes : List ℕ) (n : ℕ) (long : n ≤ length bytes) (past : 15109 < n) where
+-- the longest run of records without a fault, and the record behind it
+abbrev pub decided : ℕ
+decided = longestRun + lengthOf 1
+
+module _ (bytes : List ℕ) (n : ℕ) (long : n ≤ length bytes) (past : decided < n) where
   abbrev pre : List ℕ
   pre = take n bytes
 
@@ -67,18 +74,18 @@ module _ (bytes : List ℕ) (n : ℕ) (long : n ≤ length bytes) (past : 15109 
   same-step : (b : Book) → Kept b → nextStep limits pre b ≡ nextStep limits bytes b
   unfolding nextStep stepOf
   same-step b f =
-      let at : b .at ≤ 15104 = kept-near f in
-      let agree : recordOf (drop (b .at) pre) ≡ recordOf (drop (b .at) bytes) =
+      let at : b .at ≤ longestRun = kept-near f in
+      let agree : recordOf true (drop (b .at) pre) ≡ recordOf true (drop (b .at) bytes) =
       record-agree (drop (b .at) pre) (drop (b .at) bytes) (omega (arith, length-drop (b .at) pre, pre-length)) (omega (arith, length-drop (b .at) bytes))
       (λ i h. getD-drop (b .at) pre i 0 ∙ getD-take n bytes (b .at + i) 0 (omega arith) ∙ sym (getD-drop (b .at) bytes i 0)) in
-      let step : admitOf limits (length pre) (counts b) (recordOf (drop (b .at) pre)) ≡ admitOf limits (length bytes) (counts b) (recordOf (drop (b .at) bytes)) =
+      let step : admitOf limits (length pre) (counts b) (recordOf true (drop (b .at) pre)) ≡ admitOf limits (length bytes) (counts b) (recordOf true (drop (b .at) bytes)) =
       rw (agree, pre-length)
-      (admit-agree n (length bytes) (counts b) (recordOf (drop (b .at) bytes)) (not-missing (drop (b .at) bytes) (omega (arith, length-drop (b .at) bytes))) (omega arith) (omega arith)) in
+      (admit-agree n (length bytes) (counts b) (recordOf true (drop (b .at) bytes)) (not-missing (drop (b .at) bytes) (omega (arith, length-drop (b .at) bytes))) (omega arith) (omega arith)) in
       ap (thresholdStep b) step
 
   lock-step : (k m : ℕ) (b : Book) → Kept b → length bytes - b .at ≤ suc k → n - b .at ≤ suc m
       → ((x : Book) → Kept x → length bytes - x .at ≤ k → n - x .at ≤ m → run limits (suc k) bytes x ≡ run limits (suc m) pre x)
-      → (x : Step) → nextStep limits bytes b ≡ x → Sound (length bytes) (counts b) (recordOf (drop (b .at) bytes)) x
+      → (x : Step) → nextStep limits bytes b ≡ x → Sound (length bytes) (counts b) (recordOf true (drop (b .at) bytes)) x
       → run limits (suc (suc k)) bytes b ≡ run limits (suc (suc m)) pre b
   lock-step k m b f h g on (AddEvent c next) q s =
       run-event (suc k) bytes b c next q ∙ on (addEvent b c next) (kept-event f s) (omega arith) (omega arith) ∙ sym (run-event (suc m) pre b c next (same-step b f ∙ q))
@@ -100,14 +107,14 @@ module _ (bytes : List ℕ) (n : ℕ) (long : n ≤ length bytes) (past : 15109 
   unfolding outcome
   long-prefix = rw (add-one, add-one) (lock (length bytes) (length pre) start kept-start (omega arith) (omega (arith, pre-length)))
 
--- the first n bytes of any input are read as the input is, n being above 15,109
-pub first-bytes-decide : (n : ℕ) → 15109 < n → (bytes : List ℕ) → outcome limits (take n bytes) ≡ outcome limits bytes
+-- the first n bytes of any input are read as the input is, n being above 18,949
+pub first-bytes-decide : (n : ℕ) → decided < n → (bytes : List ℕ) → outcome limits (take n bytes) ≡ outcome limits bytes
 first-bytes-decide n past bytes =
     either (ltb (length bytes) n)
     (λ e. ap (outcome limits) (take-all n bytes (omega (arith, ltb-true (length bytes) n e))))
     (λ e. sym (long-prefix bytes n (ltb-false (length bytes) n e) past))
 
--- the program's 16,384 bytes get the number and the place of all of them
-pub program-reads-enough : (bytes : List ℕ) → judge limits (take 16384 bytes) ≡ judge limits bytes
+-- the program's 20,480 bytes get the number and the place of all of them
+pub program-reads-enough : (bytes : List ℕ) → judge limits (take mostBytes bytes) ≡ judge limits bytes
 unfolding judge
-program-reads-enough bytes = rw (first-bytes-decide 16384 (omega arith) bytes)
+program-reads-enough bytes = rw (first-bytes-decide mostBytes (omega arith) bytes)

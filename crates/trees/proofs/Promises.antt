@@ -1,7 +1,8 @@
 -- What the contracts of `read` and `write` come to: each outcome is the only one, a done reading is a lawful tree, both ways round give back
--- what went in, no accepted tree is longer than 14,849 bytes, and 16,384 bytes decide.
+-- what went in, no accepted tree is longer than 18,689 bytes, and the program's 20,480 bytes decide.
 -- Assumes nothing.
 use mathlib.Core.Path.{_≡_, refl, sym, ap, _∙_}
+use mathlib.Core.Bool.{true}
 use mathlib.Core.List.{List, _++_}
 use Prim.Native.Nat.{ℕ, zero, suc, _+_, _≤_, _<_}
 use native.Mathlib.Omega.{arith}
@@ -9,8 +10,9 @@ use lib.ListN.{length, getD, take, drop}
 use lib.Seq.{take-at}
 use lib.Dec.{ltb}
 use borrow.Author.Tests.{ltb-true, ltb-false}
-use Rattle.paper.specs.Limits.{limits}
+use Rattle.paper.specs.Limits.{limits, mostBytes}
 use Rattle.rules.specs.Format.{recordOf}
+use Rattle.rules.specs.Longest.{longestTree}
 use Rattle.records.specs.Judge.{Book, start, counts, addEvent, addGate, addInput, nextStep, Outcome, accept, refuse, unusedBy, closeOf, run, outcome}
 use Rattle.records.specs.Memory.{memory, inMemory}
 use Rattle.judging.specs.Bytes.{bytesOf, told}
@@ -66,7 +68,7 @@ module _ (bytes : List ℕ) (o : Outcome) where
 
   honest-step : (turns : ℕ) (b : Book) → ((x : Book) → x .at ≤ length bytes → run limits turns bytes x ≡ o → Honest)
       → run limits (suc turns) bytes b ≡ o → (x : Step) → nextStep limits bytes b ≡ x
-      → Sound (length bytes) (counts b) (recordOf (drop (b .at) bytes)) x → Honest
+      → Sound (length bytes) (counts b) (recordOf true (drop (b .at) bytes)) x → Honest
   honest-step turns b on e (AddEvent c next) q s = on (addEvent b c next) (s .inside) (sym (run-event turns bytes b c next q) ∙ e)
   honest-step turns b on e (AddGate kind k n next) q s = on (addGate b kind k n next) (s .inside) (sym (run-gate turns bytes b kind k n next q) ∙ e)
   honest-step turns b on e (AddInput i next) q s = on (addInput b i next) (s .inside) (sym (run-input turns bytes b i next q) ∙ e)
@@ -137,9 +139,9 @@ read-tells-all bytes good e d =
 
 -- ---- lengths
 
-pub done-is-short : (bytes : List ℕ) {r : Reading} → Reads bytes r → r .answer ≡ Done → length bytes ≤ 14849
+pub done-is-short : (bytes : List ℕ) {r : Reading} → Reads bytes r → r .answer ≡ Done → length bytes ≤ longestTree
 done-is-short bytes e d = let g = done-is-good bytes e d in longest bytes (g .book) (g .accepted)
 
--- the first 16,384 bytes are read as all of them
-pub first-bytes-read : (bytes : List ℕ) {r s : Reading} → Reads (take 16384 bytes) r → Reads bytes s → r ≡ s
-first-bytes-read bytes p q = p ∙ ap inMemory (first-bytes-decide 16384 (omega arith) bytes) ∙ sym q
+-- the program's first bytes are read as all of them
+pub first-bytes-read : (bytes : List ℕ) {r s : Reading} → Reads (take mostBytes bytes) r → Reads bytes s → r ≡ s
+first-bytes-read bytes p q = p ∙ ap inMemory (first-bytes-decide mostBytes (omega arith) bytes) ∙ sym q

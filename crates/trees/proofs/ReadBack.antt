@@ -1,13 +1,14 @@
 -- The bytes of a tree, where they are accepted, are read as the tree that they tell.
 -- Assumes nothing.
 use mathlib.Core.Path.{_≡_, refl, sym, ap, _∙_}
+use mathlib.Core.Bool.{true}
 use mathlib.Core.List.{List}
 use Prim.Native.Nat.{ℕ, _≤_, _<_}
 use native.Mathlib.Omega.{arith}
 use native.Mathlib.Nat.{le-antisymm}
 use lib.ListN.{length, getD, drop}
 use lib.Dec.{ltb, eqb}
-use Rattle.paper.specs.Limits.{limits}
+use Rattle.paper.specs.Limits.{limits, wideFrom}
 use Rattle.rules.specs.Format.{recordOf}
 use Rattle.paper.specs.Flat.{gatesFrom}
 use Rattle.records.specs.Judge.{Book, start, counts, addEvent, addGate, addInput, accept, outcome}
@@ -17,7 +18,7 @@ use Rattle.judging.specs.Inner.{Own}
 use Rattle.records.specs.declared.Tree.{Tree}
 use Rattle.rules.specs.declared.judge.State.{State}
 use Rattle.rules.proofs.Cases.{if-elim}
-use Rattle.judging.proofs.Coding.{own-unknown, own-end, own-event, own-and, own-or, own-least, own-event-input, own-gate-input}
+use Rattle.judging.proofs.Coding.{own-unknown, own-end, own-event, own-and, own-or, own-least, own-event-input, own-wide-input, own-gate-input}
 use Rattle.records.proofs.Pad.{length-▷}
 use Rattle.rules.proofs.Steps.{OnEvent, OnGate, OnInput, codeOf}
 use Rattle.judging.proofs.Rest.{nextRecord, which, is-event, is-end, tag, gate-told}
@@ -29,9 +30,11 @@ use Rattle.records.proofs.Runs.{accepted-keeps}
 pub own-next : (t : Tree) (s : State) → Own (nextRecord t s)
 own-next t s =
     let kind : ℕ = getD (t .kinds) (s .gates) 0 in
+    let code : ℕ = getD (t .inputs) (s .inputs) 0 in
     which t s Own
     (λ _. if-elim Own (ltb (s .events) (limits .events)) (λ _. own-event _) (λ _. own-event 0))
-    (λ _ _. if-elim Own (ltb (getD (t .inputs) (s .inputs) 0) gatesFrom) (λ _. own-event-input _) (λ _. own-gate-input _))
+    (λ _ _. if-elim Own (ltb code wideFrom) (λ _. own-event-input _)
+    (λ _. if-elim Own (ltb code gatesFrom) (λ _. own-wide-input _) (λ _. own-gate-input _)))
     (λ _ _ _. if-elim Own (ltb (s .gates) (limits .gates))
     (λ _. if-elim Own (eqb kind 2) (λ _. own-and _)
     (λ _. if-elim Own (eqb kind 3) (λ _. own-or _)
@@ -54,10 +57,10 @@ module _ (t : Tree) where
   along-start = record { following = follow-start t; tells = tells-start t; someEvents = omega arith; someGates = omega arith }
 
   module _ (b : Book) (v : Along b) where
-    pub there : recordOf (drop (b .at) bytes) ≡ nextRecord t (counts b)
+    pub there : recordOf true (drop (b .at) bytes) ≡ nextRecord t (counts b)
     there = read-back (v .following) refl (own-next t (counts b))
 
-    pub along-event : (c next : ℕ) → OnEvent (length bytes) (counts b) (recordOf (drop (b .at) bytes)) c next → Along (addEvent b c next)
+    pub along-event : (c next : ℕ) → OnEvent (length bytes) (counts b) (recordOf true (drop (b .at) bytes)) c next → Along (addEvent b c next)
     along-event c next on =
         let chance : chanceAt t (length (b .events)) ≡ c = event-told t (length (b .events)) c (on .few) (sym (at-event (v .following) there on) ∙ on .shape) in
         let less : length (b .events) < t .«event_count» = is-event t (counts b) (ap tag (sym there ∙ on .shape)) in
@@ -68,7 +71,7 @@ module _ (t : Tree) where
           someGates = v .someGates;
         }
 
-    pub along-gate : (kind k n next : ℕ) → OnGate (length bytes) (counts b) (recordOf (drop (b .at) bytes)) kind k n next → Along (addGate b kind k n next)
+    pub along-gate : (kind k n next : ℕ) → OnGate (length bytes) (counts b) (recordOf true (drop (b .at) bytes)) kind k n next → Along (addGate b kind k n next)
     along-gate kind k n next on =
         let (h, more, is) = at-gate (v .following) there on in
         let (kinds, leasts, size) = gate-told t (length (b .sizes)) kind k n (on .few) (sym is ∙ on .shape) in
@@ -79,7 +82,7 @@ module _ (t : Tree) where
           someGates = rw length-▷ (omega arith);
         }
 
-    pub along-input : (i next : ℕ) → OnInput (length bytes) (counts b) (recordOf (drop (b .at) bytes)) i next → Along (addInput b i next)
+    pub along-input : (i next : ℕ) → OnInput (length bytes) (counts b) (recordOf true (drop (b .at) bytes)) i next → Along (addInput b i next)
     along-input i next on =
         let (h, is) = at-input (v .following) there on in
         record {

@@ -1,16 +1,18 @@
 -- What was read as a record is that record's bytes.
 -- Assumes nothing.
 use mathlib.Core.Path.{_≡_, refl, ap, _∙_}
+use mathlib.Core.Bool.{true}
 use mathlib.Core.List.{List, [], _∷_, _++_}
 use Prim.Native.Nat.{ℕ, _+_, _-_, _*_, _/_, _%_, _≤_, _<_}
 use native.Mathlib.Omega.{arith}
 use lib.ListN.{length, getD, drop}
 use borrow.Author.Tests.{lt-ltb, le-ltb}
 use Rattle.rules.specs.Format.{byte, recordOf, widthOf, encode}
+use Rattle.paper.specs.Limits.{wideFrom}
 use Rattle.paper.specs.Flat.{gatesFrom}
 use Rattle.judging.specs.Bytes.{inputRecord, gateRecord}
 use Rattle.rules.specs.declared.format.Record.{Record}
-use Rattle.rules.specs.declared.format.Record.the-variants.{Missing, Unknown, Short, Event, Gate, EventInput, GateInput, End}
+use Rattle.rules.specs.declared.format.Record.the-variants.{Missing, Unknown, Short, Event, Gate, EventInput, GateInput, WideInput, End}
 use Rattle.rules.proofs.Cases.{front, known}
 use Rattle.rules.proofs.Steps.{codeOf, IsInput}
 
@@ -53,15 +55,16 @@ high3 a b d x h k m = omega arith
 abbrev Starts : List ℕ → Record → Type 0
 Starts l r = l ≡ encode r ++ drop (widthOf r) l
 
--- what holds of a record that was read: its bytes stand there, a gate has its k only if it is an at-least gate, an event's input is a byte
+-- what holds of a record that was read: its bytes stand there, a gate has its k only if it is an at-least gate, a short event's input is a byte
 abbrev pub Recoded : List ℕ → Record → Type 0
 Recoded l Missing = Unit {0}
 Recoded l Unknown = Unit {0}
 Recoded l Short = Unit {0}
 Recoded l (Event c) = Starts l (Event c)
 Recoded l (Gate kind k n) = Starts l (Gate kind k n) × (gateRecord kind k n ≡ Gate kind k n)
-Recoded l (EventInput e) = Starts l (EventInput e) × (e < 256)
+Recoded l (EventInput e) = Starts l (EventInput e) × (e < wideFrom)
 Recoded l (GateInput g) = Starts l (GateInput g)
+Recoded l (WideInput e) = Starts l (WideInput e)
 Recoded l End = Starts l End
 
 module _ (l : List ℕ) (good : (i : ℕ) → getD l i 0 < 256) where
@@ -79,13 +82,15 @@ module _ (l : List ℕ) (good : (i : ℕ) → getD l i 0 < 256) where
       = λ i. k i ∷ p1 i ∷ p2 i ∷ p3 i ∷ p4 i ∷ drop 5 l in
       split5 l h ∙ q
 
-  recode-gate-input : byte l 0 ≡ 6 → 3 ≤ length l → Starts l (GateInput (byte l 1 + 256 * byte l 2))
-  recode-gate-input k h =
+  -- a kind with a number of two bytes
+  recode-two : (kind : ℕ) → byte l 0 ≡ kind → 3 ≤ length l
+      → l ≡ kind ∷ (byte l 1 + 256 * byte l 2) % 256 ∷ (byte l 1 + 256 * byte l 2) / 256 ∷ drop 3 l
+  recode-two kind k h =
       let g : ℕ = byte l 1 + 256 * byte l 2 in
       let g1 : byte l 1 < 256 = good 1 in
       let p1 : byte l 1 ≡ g % 256 = omega arith in
       let p2 : byte l 2 ≡ g / 256 = omega arith in
-      let q : byte l 0 ∷ byte l 1 ∷ byte l 2 ∷ drop 3 l ≡ 6 ∷ g % 256 ∷ g / 256 ∷ drop 3 l = λ i. k i ∷ p1 i ∷ p2 i ∷ drop 3 l in
+      let q : byte l 0 ∷ byte l 1 ∷ byte l 2 ∷ drop 3 l ≡ kind ∷ g % 256 ∷ g / 256 ∷ drop 3 l = λ i. k i ∷ p1 i ∷ p2 i ∷ drop 3 l in
       split3 l h ∙ q
 
   two-are : (x : ℕ) → byte l 0 ≡ x → 2 ≤ length l → l ≡ x ∷ byte l 1 ∷ drop 2 l
@@ -94,7 +99,7 @@ module _ (l : List ℕ) (good : (i : ℕ) → getD l i 0 < 256) where
   three-are : (x : ℕ) → byte l 0 ≡ x → 3 ≤ length l → l ≡ x ∷ byte l 1 ∷ byte l 2 ∷ drop 3 l
   three-are x k h = split3 l h ∙ ap (λ (y : ℕ). y ∷ byte l 1 ∷ byte l 2 ∷ drop 3 l) k
 
-  pub recode : Recoded l (recordOf l)
+  pub recode : Recoded l (recordOf true l)
   recode =
       front l R (λ _. tt) (λ _. tt) (λ _ _. tt)
       (λ one some h.
@@ -104,17 +109,21 @@ module _ (l : List ℕ) (good : (i : ℕ) → getD l i 0 < 256) where
       (λ q m. (two-are 3 q m, refl))
       (λ q m. (three-are 4 q m, refl))
       (λ q m. (two-are 5 q m, good 1))
-      recode-gate-input
+      (recode-two 6)
       (λ q m. split1 l m ∙ ap (λ (y : ℕ). y ∷ drop 1 l) q)
+      (recode-two 8)
       (byte l 0) some refl h)
 
 -- an input's record is that of its number
-pub input-again : (l : List ℕ) (r : Record) → IsInput r → Recoded l r → (inputRecord (codeOf r) ≡ r) × Starts l r
-input-again l Missing h f = absurd h
-input-again l Unknown h f = absurd h
-input-again l Short h f = absurd h
-input-again l (Event c) h f = absurd h
-input-again l (Gate kind k n) h f = absurd h
-input-again l (EventInput e) h f = (rw (lt-ltb e 256 (f .1)), f .0)
-input-again l (GateInput g) h f = let d : gatesFrom + g - gatesFrom ≡ g = omega arith in (rw (le-ltb (gatesFrom + g) gatesFrom (omega arith), d), f)
-input-again l End h f = absurd h
+pub input-again : (l : List ℕ) (n : ℕ) → n ≤ gatesFrom → (r : Record) → IsInput n r → Recoded l r → (inputRecord (codeOf r) ≡ r) × Starts l r
+input-again l n few Missing h f = absurd h
+input-again l n few Unknown h f = absurd h
+input-again l n few Short h f = absurd h
+input-again l n few (Event c) h f = absurd h
+input-again l n few (Gate kind k m) h f = absurd h
+input-again l n few (EventInput e) h f = (rw (lt-ltb e wideFrom (f .1)), f .0)
+input-again l n few (GateInput g) h f =
+    let d : gatesFrom + g - gatesFrom ≡ g = omega arith in
+    (rw (le-ltb (gatesFrom + g) wideFrom (omega arith), le-ltb (gatesFrom + g) gatesFrom (omega arith), d), f)
+input-again l n few (WideInput e) (wide, there) f = (rw (le-ltb e wideFrom wide, lt-ltb e gatesFrom (omega arith)), f)
+input-again l n few End h f = absurd h

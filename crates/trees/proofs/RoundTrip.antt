@@ -1,6 +1,7 @@
 -- Writing an accepted tree gives the bytes that were read; and the bytes that a write gives are read as the tree that they tell.
 -- Assumes nothing.
 use mathlib.Core.Path.{_≡_, refl, sym, ap, _∙_}
+use mathlib.Core.Bool.{true}
 use mathlib.Core.List.{List, [], _∷_, _++_, append-assoc, append-nil}
 use Prim.Native.Nat.{ℕ, zero, suc, _+_, _-_, _≤_, _<_}
 use native.Mathlib.Omega.{arith}
@@ -64,7 +65,7 @@ module _ (bytes : List ℕ) (good : (i : ℕ) → getD bytes i 0 < 256) (b′ : 
   good-from : (at i : ℕ) → getD (drop at bytes) i 0 < 256
   good-from at i = rw getD-drop (good (at + i))
 
-  recoded : (at : ℕ) (r : Record) → recordOf (drop at bytes) ≡ r → Recoded (drop at bytes) r
+  recoded : (at : ℕ) (r : Record) → recordOf true (drop at bytes) ≡ r → Recoded (drop at bytes) r
   recoded at r e = rw e at (recode (drop at bytes) (good-from at))
 
   event-there : (l : List EventOf) (c : ℕ) → More (_▷_ l (record { chance = c })) (b′ .events) → length l < limits .events → eventRecord (memory b′) (length l) ≡ Event c
@@ -72,7 +73,7 @@ module _ (bytes : List ℕ) (good : (i : ℕ) → getD bytes i 0 < 256) (b′ : 
   event-there l c m h =
       rw (lt-ltb (length l) (limits .events) h) (ap (λ (e : EventOf). Event (e .chance)) (pad-getD (limits .events) noEvent (b′ .events) (length l) noEvent (more-long l _ m) ∙ more-at l _ _ m))
 
-  back-event : (b : Book) (c next : ℕ) → Kept b → Sound (length bytes) (counts b) (recordOf (drop (b .at) bytes)) (AddEvent c next) → Back (addEvent b c next) → Back b
+  back-event : (b : Book) (c next : ℕ) → Kept b → Sound (length bytes) (counts b) (recordOf true (drop (b .at) bytes)) (AddEvent c next) → Back (addEvent b c next) → Back b
   unfolding memory
   back-event b c next f on (later, rest, still) =
       let there : eventRecord (memory b′) (length (b .events)) ≡ Event c = event-there (b .events) c (later .events) (on .few) in
@@ -92,7 +93,7 @@ module _ (bytes : List ℕ) (good : (i : ℕ) → getD bytes i 0 < 256) (b′ : 
   number-there : (top : ℕ) (l l′ : List ℕ) (x g : ℕ) → length l ≡ g → More (_▷_ l x) l′ → getD (pad top 0 l′) g 0 ≡ x
   number-there top l l′ x g e m = rw (← e) (pad-getD top 0 l′ (length l) 0 (more-long l x m) ∙ more-at l x 0 m)
 
-  back-gate : (b : Book) (kind k n next : ℕ) → Kept b → Sound (length bytes) (counts b) (recordOf (drop (b .at) bytes)) (AddGate kind k n next)
+  back-gate : (b : Book) (kind k n next : ℕ) → Kept b → Sound (length bytes) (counts b) (recordOf true (drop (b .at) bytes)) (AddGate kind k n next)
       → Back (addGate b kind k n next) → Back b
   unfolding memory
   back-gate b kind k n next f on (later, rest, still) =
@@ -117,13 +118,13 @@ module _ (bytes : List ℕ) (good : (i : ℕ) → getD bytes i 0 < 256) (b′ : 
         λ some. all,
       )
 
-  back-input : (b : Book) (i next : ℕ) → Kept b → Sound (length bytes) (counts b) (recordOf (drop (b .at) bytes)) (AddInput i next)
+  back-input : (b : Book) (i next : ℕ) → Kept b → Sound (length bytes) (counts b) (recordOf true (drop (b .at) bytes)) (AddInput i next)
       → Back (addInput b i next) → Back b
   unfolding memory
   back-input b i next f on (later, rest, still) =
       let t : Tree = memory b′ in
-      let r : Record = recordOf (drop (b .at) bytes) in
-      let (again, starts) = input-again (drop (b .at) bytes) r (on .input) (recoded (b .at) r refl) in
+      let r : Record = recordOf true (drop (b .at) bytes) in
+      let (again, starts) = input-again (drop (b .at) bytes) (length (b .events)) (f .fewEvents) r (on .input) (recoded (b .at) r refl) in
       let ki : getD (t .inputs) (length (b .inputs)) 0 ≡ i = number-there (limits .inAll) (b .inputs) _ i _ refl (later .inputs) in
       let there : inputRecordAt t (length (b .inputs)) ≡ r = ap inputRecord (ki ∙ sym (on .code)) ∙ again in
       let gates : 0 < length (b .sizes) = some-sizes (b .sizes) (omega (arith, f .wanted, on .some)) in
@@ -138,7 +139,7 @@ module _ (bytes : List ℕ) (good : (i : ℕ) → getD bytes i 0 < 256) (b′ : 
         λ _. all,
       )
 
-  back-end : (b : Book) → b ≡ b′ → Sound (length bytes) (counts b) (recordOf (drop (b .at) bytes)) Close → Back b
+  back-end : (b : Book) → b ≡ b′ → Sound (length bytes) (counts b) (recordOf true (drop (b .at) bytes)) Close → Back b
   unfolding memory
   back-end b e on =
       let none-left : drop 1 (drop (b .at) bytes) ≡ [] = drop-drop 1 (b .at) bytes ∙ drop-of-length-le bytes {i = b .at + 1} (on .short) in
@@ -159,7 +160,7 @@ module _ (bytes : List ℕ) (good : (i : ℕ) → getD bytes i 0 < 256) (b′ : 
   back-step : (turns : ℕ) (b : Book) → Kept b → b .at ≤ length bytes
       → ((x : Book) → Kept x → x .at ≤ length bytes → run limits turns bytes x ≡ accept b′ → Back x)
       → run limits (suc turns) bytes b ≡ accept b′ → (x : Step) → nextStep limits bytes b ≡ x
-      → Sound (length bytes) (counts b) (recordOf (drop (b .at) bytes)) x → Back b
+      → Sound (length bytes) (counts b) (recordOf true (drop (b .at) bytes)) x → Back b
   back-step turns b f h on e (AddEvent c next) q s =
       back-event b c next f s (on (addEvent b c next) (kept-event f s) (s .inside) (sym (run-event turns bytes b c next q) ∙ e))
   back-step turns b f h on e (AddGate kind k n next) q s =

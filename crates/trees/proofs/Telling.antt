@@ -7,7 +7,7 @@ use native.Mathlib.Omega.{arith}
 use lib.ListN.{length, getD}
 use lib.Dec.{ltb}
 use borrow.Author.Tests.{ltb-false, lt-ltb}
-use Rattle.paper.specs.Limits.{limits}
+use Rattle.paper.specs.Limits.{limits, wideFrom}
 use Rattle.paper.specs.Lists.{sum}
 use Rattle.paper.specs.Flat.{gatesFrom}
 use Rattle.records.specs.Judge.{Book, start, _▷_, addEvent, addGate, addInput}
@@ -29,7 +29,8 @@ module _ (t : Tree) where
   pub input-told : (i : ℕ) → codeOf (inputRecordAt t i) ≡ getD (t .inputs) i 0
   input-told i =
       let x : ℕ = getD (t .inputs) i 0 in
-      if-elim (λ (r : Record). codeOf r ≡ x) (ltb x gatesFrom) (λ _. refl) (λ e. omega (arith, ltb-false x gatesFrom e))
+      let P : Record → Type 0 = λ r. codeOf r ≡ x in
+      if-elim P (ltb x wideFrom) (λ _. refl) (λ _. if-elim P (ltb x gatesFrom) (λ _. refl) (λ e. omega (arith, ltb-false x gatesFrom e)))
 
 -- b is what the bytes of t tell, as far as they are read
 pub record Tells (t : Tree) (b : Book) : Type 0 where

@@ -6,7 +6,7 @@ use Prim.Native.Nat.{ℕ, _+_, _-_, _≤_, _<_}
 use native.Mathlib.Omega.{arith}
 use lib.Dec.{ltb, leb, eqb}
 use borrow.Author.Tests.{ltb-true, ltb-false, leb-true, eqb-true, eqb-false, le-ltb, ne-eqb}
-use Rattle.paper.specs.Limits.{limits, billion}
+use Rattle.paper.specs.Limits.{limits, wideFrom, billion}
 use Rattle.paper.specs.Flat.{gatesFrom}
 use Rattle.rules.specs.Rules.{wrongK, eventStep, gateStep, endStep, admitOf, Fits}
 use Rattle.judging.specs.Bytes.{inputRecord, gateRecord}
@@ -51,12 +51,17 @@ module _ (s : State) (len : ℕ) where
   -- an input that fits the last gate
   pub input-welcome : (code : ℕ) → 0 < s .left → 0 < s .gates → Fits (s .events) (s .gates - 1) code → Welcome (admitOf limits len s (inputRecord code))
   input-welcome code some gates fits =
-      if-elim (λ (r : Record). Welcome (admitOf limits len s r)) (ltb code gatesFrom)
+      let P : Record → Type 0 = λ r. Welcome (admitOf limits len s r) in
+      if-elim P (ltb code wideFrom)
       (λ low. if-elim Welcome (eqb (s .left) 0) (λ e. absurd (omega (arith, eqb-true (s .left) 0 e)))
-      (λ _. if-elim Welcome (leb (s .events) code) (λ e. absurd (omega (arith, leb-true (s .events) code e, fits .event (ltb-true code gatesFrom low)))) (λ _. tt)))
+      (λ _. if-elim Welcome (leb (s .events) code) (λ e. absurd (omega (arith, leb-true (s .events) code e, fits .event (omega (arith, ltb-true code wideFrom low))))) (λ _. tt)))
+      (λ wide. if-elim P (ltb code gatesFrom)
+      (λ low. if-elim Welcome (eqb (s .left) 0) (λ e. absurd (omega (arith, eqb-true (s .left) 0 e)))
+      (λ _. if-elim Welcome (ltb code wideFrom) (λ e. absurd (omega (arith, ltb-true code wideFrom e, ltb-false code wideFrom wide)))
+      (λ _. if-elim Welcome (leb (s .events) code) (λ e. absurd (omega (arith, leb-true (s .events) code e, fits .event (ltb-true code gatesFrom low)))) (λ _. tt))))
       (λ high. if-elim Welcome (eqb (s .left) 0) (λ e. absurd (omega (arith, eqb-true (s .left) 0 e)))
       (λ _. if-elim Welcome (leb (s .gates) (code - gatesFrom + 1))
-      (λ e. absurd (omega (arith, leb-true (s .gates) (code - gatesFrom + 1) e, ltb-false code gatesFrom high, fits .below))) (λ _. tt)))
+      (λ e. absurd (omega (arith, leb-true (s .gates) (code - gatesFrom + 1) e, ltb-false code gatesFrom high, fits .below))) (λ _. tt))))
 
   -- a gate of one of the three kinds
   pub kind-welcome : (kind k n : ℕ) → (2 ≤ kind) × (kind ≤ 4) → s .left ≡ 0 → s .gates < limits .gates → 1 ≤ n → n ≤ limits .inputs

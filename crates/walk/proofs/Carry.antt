@@ -2,7 +2,7 @@
 -- Assumes nothing.
 use mathlib.Core.Path.{_≡_, refl, sym, ap, ap₂, _∙_, fun-ext}
 use mathlib.Core.Bool.{true, false}
-use mathlib.Core.List.{List, [], _∷_, _++_}
+use mathlib.Core.List.{List, [], _∷_, _++_, map-append}
 use Prim.Native.Nat.{ℕ, suc, _+_, _-_, _≤_, _<_}
 use native.Mathlib.Decide.{ℕ-discrete}
 use native.Mathlib.Numerals.{add-one}
@@ -15,7 +15,7 @@ use Rattle.algebra.proofs.Base.{put-same, put-other}
 use Rattle.sets.specs.Words.{words, setOf, room}
 use Rattle.sets.proofs.Words.{empty-none}
 use Rattle.tables.specs.Table.{eventOf}
-use Rattle.walk.specs.Paths.{along, Climbs, Open, Carries}
+use Rattle.walk.specs.Paths.{eventsOf, along, Climbs, Open, Carries}
 use Rattle.walk.proofs.Paths.{climbs-length, room-for, here, shorter, top}
 
 -- ---- the last event of a path
@@ -30,10 +30,14 @@ swap a b S = fun-ext (λ i. go i (ℕ-discrete i a) (ℕ-discrete i b))
     go i (no p) (yes q) = rw (ne-eqb i a p, eq-eqb i b q) refl
     go i (no p) (no q) = rw (ne-eqb i a p, ne-eqb i b q) refl
 
-along-snoc : (T p : List ℕ) (i : ℕ) → along T (p ++ (i ∷ [])) ≡ put (eventOf T i) true (along T p)
+-- an event more, at the end
+pub events-more : (l : List ℕ) (e : ℕ) → ofEvents (l ++ (e ∷ [])) ≡ put e true (ofEvents l)
 unfolding ofEvents
-along-snoc T [] i = refl
-along-snoc T (j ∷ p) i = ap (put (eventOf T j) true) (along-snoc T p i) ∙ swap (eventOf T j) (eventOf T i) (along T p)
+events-more [] e = refl
+events-more (x ∷ l) e = ap (put x true) (events-more l e) ∙ swap x e (ofEvents l)
+
+along-snoc : (T p : List ℕ) (i : ℕ) → along T (p ++ (i ∷ [])) ≡ put (eventOf T i) true (along T p)
+along-snoc T p i = ap ofEvents (map-append (eventOf T) p (i ∷ [])) ∙ events-more (eventsOf T p) (eventOf T i)
 
 -- a path that ends below an event does not hold it
 above : (T : List ℕ) (c : ℕ) (p : List ℕ) (m e : ℕ) → Climbs T c m p e → (j : ℕ) → e ≤ j → along T p j ≡ false

@@ -13,7 +13,7 @@ use Rattle.judging.specs.Bytes.{bytesOf}
 use Rattle.writing.specs.Writes.{laidOf, writeOf, wrote}
 use Rattle.judging.specs.Inner.{Accepted, Surveyed}
 use Rattle.rules.specs.declared.Answer.{Answer}
-use Rattle.rules.specs.declared.Answer.the-variants.{Done, Cut, UnknownKind, OutOfPlace, Count, Threshold, Reference, Chance, Unused, Room}
+use Rattle.rules.specs.declared.Answer.the-variants.{Done, Cut, UnknownKind, OutOfPlace, Count, Threshold, Reference, Chance, Unused, Room, Narrow}
 use Rattle.records.specs.declared.Tree.{Tree}
 
 pub done-is : (a : Answer) → verdict a .number ≡ 0 → a ≡ Done
@@ -27,6 +27,7 @@ done-is (Reference p) e = absurd (omega arith)
 done-is (Chance p) e = absurd (omega arith)
 done-is (Unused p) e = absurd (omega arith)
 done-is Room e = absurd (omega arith)
+done-is (Narrow p) e = absurd (omega arith)
 
 -- a text for a room, by an outcome
 module _ (o : Outcome) (s room : List ℕ) where

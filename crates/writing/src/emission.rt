@@ -57,6 +57,11 @@ pub fn put(b: &mut [u8], r: Record)
             b[1] = (g % 256) as u8;
             b[2] = (g / 256) as u8;
         }
+        Record::WideInput(e) => {
+            b[0] = 8;
+            b[1] = (e % 256) as u8;
+            b[2] = (e / 256) as u8;
+        }
         Record::End => {
             b[0] = 7;
         }

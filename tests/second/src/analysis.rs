@@ -1,4 +1,4 @@
-//! The whole analysis: 1 to 8, then 9, then 10, then 11.
+//! The whole analysis: 1 to 8 and 21, then 9, then 10, then 11.
 
 use crate::cut_diagram::CutDiagram;
 use crate::judge::{read, refuse, Refusal};

@@ -38,7 +38,7 @@ pub fn cut_nodes_needed(root: &Function, events: usize) -> usize {
 }
 
 pub fn as_set(set: usize) -> Set {
-    (0..usize::BITS).filter(|event| set >> event & 1 == 1).fold(Set::EMPTY, |s, event| s.with(event))
+    Set::from_number(0, set)
 }
 
 /// The family's sets in the listing's order.

@@ -2,6 +2,7 @@
 //! each cut in the other, and the first of it by 01's order of sets.
 
 use crate::sets::Set;
+use crate::tree::{FIRST_WIDE_EVENT, MOST_EVENTS};
 use std::collections::HashSet;
 
 #[derive(Clone, Copy, Debug, Default, PartialEq, Eq)]
@@ -56,26 +57,34 @@ impl Verdict {
     }
 }
 
-/// The cut at the front of the bytes, and how many it has: members in rising order, kind 21 and the event; then kind 22.
+/// The member at the front of the bytes, and how many it has: kind 21 and a byte, or kind 23 and two, the low one first. With kind 23 a
+/// number below 256 is bad, and so is one that no event has.
+fn member_at_front(bytes: &[u8]) -> Option<(u32, usize)> {
+    match bytes {
+        [0x21, event, ..] => Some((u32::from(*event), 2)),
+        [0x23, low, high, ..] => {
+            let event = u32::from(u16::from_le_bytes([*low, *high]));
+            (FIRST_WIDE_EVENT..MOST_EVENTS as u32).contains(&event).then_some((event, 3))
+        }
+        _ => None,
+    }
+}
+
+/// The cut at the front of the bytes, and how many it has: members in rising order; then kind 22.
 pub fn cut_at_front(bytes: &[u8]) -> Option<(Set, usize)> {
     let mut set = Set::EMPTY;
     let mut least = 0;
     let mut at = 0;
-    loop {
-        match bytes.get(at)? {
-            0x21 => {
-                let event = u32::from(*bytes.get(at + 1)?);
-                if event < least {
-                    return None;
-                }
-                set = set.with(event);
-                least = event + 1;
-                at += 2;
-            }
-            0x22 => return Some((set, at + 1)),
-            _ => return None,
+    while *bytes.get(at)? != 0x22 {
+        let (event, length) = member_at_front(&bytes[at..])?;
+        if event < least {
+            return None;
         }
+        set = set.with(event);
+        least = event + 1;
+        at += length;
     }
+    Some((set, at + 1))
 }
 
 /// The cuts of a listing, unless it is out of order or has a bad record.

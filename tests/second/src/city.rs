@@ -1,4 +1,4 @@
-//! Trees like a city's: corridors of stations with detectors, links and controllers, two clocks for all,
+//! Trees like a city's: corridors of stations with loops, links and controllers, two clocks for all,
 //! and feeds shared by corridors that lie far apart. The sharing is what makes the diagram large.
 
 use crate::equations::tree_of;
@@ -22,6 +22,8 @@ pub struct City {
 pub const SMALL: City = City { corridors: 10, stations: 5, blind: 3, feeds: 5, apart: 2, lost: 3 };
 pub const MIDDLE: City = City { corridors: 12, stations: 6, blind: 3, feeds: 8, apart: 3, lost: 4 };
 pub const LARGE: City = City { corridors: 14, stations: 6, blind: 3, feeds: 11, apart: 4, lost: 4 };
+/// 900 events and 238,958 nodes.
+pub const WIDE: City = City { corridors: 18, stations: 24, blind: 4, feeds: 16, apart: 4, lost: 4 };
 
 pub fn equations(city: City) -> String {
     let mut text = String::new();
@@ -43,8 +45,8 @@ pub fn equations(city: City) -> String {
         for s in 0..city.stations {
             // Every second station has a feed of its own kind: one of the two alone.
             let power = if s % 2 == 0 { format!("power{c}") } else { format!("feed{}", [first, second][s / 2 % 2]) };
-            line(format!("station{c}x{s} = detector{c}x{s} or {power} or link{c}x{s}"));
-            line(format!("p detector{c}x{s} {}0000000", 1 + (c + s) % 9));
+            line(format!("station{c}x{s} = loop{c}x{s} or {power} or link{c}x{s}"));
+            line(format!("p loop{c}x{s} {}0000000", 1 + (c + s) % 9));
             line(format!("p link{c}x{s} {}000000", 1 + (c * s) % 9));
         }
     }

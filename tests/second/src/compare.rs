@@ -6,7 +6,7 @@ use crate::compare_changes::compare_pairs;
 use crate::compare_equations::{compare_texts, compare_trees};
 use crate::compare_lent::{compare_bracket, compare_list};
 use crate::compare_sizes::{compare_folders, compare_sizes};
-use crate::damage::damaged;
+use crate::damage::{damaged, NUMBERS};
 use crate::diagrams;
 use crate::families;
 use crate::generator::{self, large_shape, longest_shape, middle_shape, small_shape};
@@ -27,7 +27,7 @@ pub fn compare_input(library: &dyn Library, seed: u64, tally: &mut Tally) {
     match seed % 22 {
         0 => compare_reading(library, &generator::bytes(random), random, tally),
         1..=3 => {
-            let number = random.between(1, 8) as u32;
+            let number = random.of(&NUMBERS);
             let bytes = damaged(random, number).bytes;
             compare_reading(library, &bytes, random, tally);
             if random.once_in(4) {
@@ -47,6 +47,7 @@ pub fn compare_input(library: &dyn Library, seed: u64, tally: &mut Tally) {
                 0 => longest_shape(),
                 1 | 2 => large_shape(random),
                 3 => return compare_tree(library, &generator::narrow_tree(random), random, tally),
+                4..=6 => return compare_tree(library, &generator::wide_tree(random), random, tally),
                 _ => middle_shape(random),
             };
             compare_tree(library, &generator::tree(random, shape), random, tally);
@@ -180,13 +181,14 @@ pub fn compare_analysis_in(
     let all = [&memory.all()[..], &[&added]].concat();
     tally.holds("guards of an analysis", all.iter().all(|area| area.guards_stand()));
     match expected {
-        Err(Refusal { number, place }) => {
+        Err(refusal) => {
+            let Refusal { number, place } = refusal;
             let refused = AnalyseAnswer { number, place, nodes: 0, cut_nodes: 0, root: 0, cut_root: 0 };
             tally.same("a refused analysis", refused, got);
-            if number <= 9 {
-                tally.holds("1 to 9 write nothing", all.iter().all(|area| area.unchanged()));
-            } else {
+            if refusal.leaves_zero() {
                 tally.holds("10 and 11 leave zero", all.iter().all(|area| area.all(0)));
+            } else {
+                tally.holds("1 to 9 and 21 write nothing", all.iter().all(|area| area.unchanged()));
             }
         }
         Ok(done) => {
@@ -214,6 +216,7 @@ fn meet_analysis(expected: &Result<Analysis, Refusal>, bytes: &[u8], lengths: Le
             tally.meet("analyses without a memo", lengths.memo == 0);
             tally.meet("with one quadruple", lengths.memo == 4);
             tally.meet("with 10,000 quadruples", lengths.memo >= 40_000);
+            tally.meet("of more than 256 events", done.tree.event_count > 256);
             tally.large("events analysed", done.tree.event_count);
             tally.large("gates analysed", done.tree.gate_count);
             tally.large("inputs analysed", done.tree.inputs.len() as u64);

@@ -7,8 +7,10 @@ use crate::european::european_1;
 use crate::judge::write;
 use crate::library::*;
 use crate::listing::list;
-use crate::pairs;
+use crate::metropolis::metropolis;
+use crate::pairs::{self, bytes_of};
 use crate::random::Random;
+use crate::sets::Set;
 use crate::tally::{hex, Tally};
 use crate::tree::*;
 
@@ -46,7 +48,7 @@ pub fn compare_pair(library: &dyn Library, yesterday: &[u8], today: &[u8], tally
     );
 }
 
-/// The pairs of every run: short bytes of all sorts, every byte of a listing changed, cases 1 and 6, European 1 with a cut taken out.
+/// The pairs of every run: short bytes of all sorts, every byte of a listing changed, cases 1 and 6, large trees with a cut taken out.
 pub fn compare_listings(library: &dyn Library, tally: &mut Tally) {
     tally.detailed = true;
     tally.name = Some("listings of up to four bytes");
@@ -55,35 +57,46 @@ pub fn compare_listings(library: &dyn Library, tally: &mut Tally) {
         short.iter().for_each(|today| compare_pair(library, yesterday, today, tally));
     }
     tally.name = Some("one byte changed");
-    let told = [0x21, 1, 0x21, 2, 0x21, 0x22, 0x22, 0x21, 1, 0x21, 2, 0x22, 0x21, 0x22, 0x22, 0x22];
-    for place in 0..told.len() {
-        for byte in 0..=255 {
-            let mut other = told;
-            other[place] = byte;
-            compare_pair(library, &told, &other, tally);
-            compare_pair(library, &other, &told, tally);
-            compare_pair(library, &other, &other, tally);
+    let across = [&[254, 255, 256, 0x122][..], &[255, 256, 257], &[0x121, 0x223], &[0x322, 1_023], &[]];
+    for sets in [&[&[1, 2, 0x22][..], &[1, 2], &[0x22], &[]][..], &across] {
+        let told = bytes_of(&sets.iter().map(|members| Set::of(members)).collect::<Vec<_>>());
+        for place in 0..told.len() {
+            for byte in 0..=255 {
+                let mut other = told.clone();
+                other[place] = byte;
+                compare_ways(library, &told, &other, tally);
+                compare_pair(library, &other, &other, tally);
+            }
         }
     }
     tally.name = Some("cases 1 and 6");
     let (two_ands, two_of_three) = (listing_of(&case_1()), listing_of(&case_6()));
-    compare_ways(library, &two_ands, &two_of_three, tally);
+    compare_all_ways(library, &two_ands, &two_of_three, tally);
     tally.detailed = false;
-    tally.name = Some("European 1 with a cut taken out");
-    let whole = listing_of(&european_1());
+    compare_taken_out(library, "European 1 with a cut taken out", &european_1(), tally);
+    compare_taken_out(library, "the metropolis with a cut taken out", &metropolis(), tally);
+    tally.name = None;
+}
+
+fn compare_taken_out(library: &dyn Library, name: &'static str, tree: &Tree, tally: &mut Tally) {
+    tally.name = Some(name);
+    let whole = listing_of(tree);
     let cuts = cuts_of(&whole).expect("a listing of the second program is good");
     for place in [0, 1, cuts.len() / 2, cuts.len() - 1] {
         let cut = cuts[place];
-        compare_ways(library, &whole, &[&whole[..cut.start], &whole[cut.end..]].concat(), tally);
+        compare_all_ways(library, &whole, &[&whole[..cut.start], &whole[cut.end..]].concat(), tally);
     }
     // The last byte lost, with a difference in the first cut.
-    compare_ways(library, &whole[cuts[0].end..], &whole[..whole.len() - 1], tally);
-    tally.name = None;
+    compare_all_ways(library, &whole[cuts[0].end..], &whole[..whole.len() - 1], tally);
 }
 
 fn compare_ways(library: &dyn Library, one: &[u8], other: &[u8], tally: &mut Tally) {
     compare_pair(library, one, other, tally);
     compare_pair(library, other, one, tally);
+}
+
+fn compare_all_ways(library: &dyn Library, one: &[u8], other: &[u8], tally: &mut Tally) {
+    compare_ways(library, one, other, tally);
     compare_pair(library, one, one, tally);
 }
 

@@ -1,4 +1,4 @@
-//! The fixed inputs of every run: requests 3 and 6 case by case, trees of known numbers at exact capacities, the longest bytes, the limits of lengths.
+//! The fixed inputs of every run: requests 3, 6 and 7 case by case, trees of known numbers at exact capacities, the longest bytes, the limits of lengths.
 
 use crate::analysis::{analyse, Lengths};
 use crate::city::{self, city};
@@ -8,27 +8,32 @@ use crate::compare_changes::{case_1, compare_listings};
 use crate::compare_equations::{compare_export, compare_import};
 use crate::compare_lent::one_listing;
 use crate::compare_sizes::compare_figures;
+use crate::compare_wide::compare_wide;
 use crate::diagrams;
 use crate::european::{self, european_1};
 use crate::generator::longest_run;
 use crate::judge::write;
 use crate::lent::{Lent, Sort, MOST_NUMBERS};
 use crate::library::*;
+use crate::metropolis::{self, metropolis};
 use crate::random::Random;
 use crate::tally::Tally;
 use crate::texts::{chain, upside_down, wide};
 use crate::tree::*;
-use crate::twins::{Due, CASES, TEXTS};
+use crate::twins::{Case, Due, CASES, TEXTS};
 
 pub fn compare_large(library: &dyn Library, tally: &mut Tally) {
     let random = &mut Random::new(0);
     tally.detailed = true;
     compare_twins(library, random, tally);
     compare_added(library, random, tally);
+    compare_wide(library, random, tally);
     compare_named(library, "European 1", &european_1(), random, tally);
     compare_named(library, "a small city", &city(city::SMALL), random, tally);
     compare_named(library, "a middle city", &city(city::MIDDLE), random, tally);
     compare_named(library, "a large city", &city(city::LARGE), random, tally);
+    compare_named(library, "a wide city", &city(city::WIDE), random, tally);
+    compare_named(library, "the metropolis", &metropolis(), random, tally);
     compare_figures(library, random, tally);
     compare_longest_bytes(library, random, tally);
     compare_longest_tables(library, random, tally);
@@ -40,9 +45,9 @@ pub fn compare_large(library: &dyn Library, tally: &mut Tally) {
     tally.name = None;
 }
 
-/// Request 3, byte by byte: the second program's answers are held to those that are written out, the library's to the second program's.
-pub fn compare_twins(library: &dyn Library, random: &mut Random, tally: &mut Tally) {
-    for case in CASES {
+/// Byte by byte: the second program's answers are held to those that are written out, the library's to the second program's.
+pub fn compare_cases(library: &dyn Library, cases: &[Case], random: &mut Random, tally: &mut Tally) {
+    for case in cases {
         tally.name = Some(case.what);
         let bytes = case.bytes();
         let done = analyse(&bytes, Lengths::AMPLE);
@@ -55,6 +60,10 @@ pub fn compare_twins(library: &dyn Library, random: &mut Random, tally: &mut Tal
         let lengths = Lengths { memo: 4, ..Lengths::of_capacities(nodes, cuts) };
         compare_analysis_in(library, &bytes, lengths, library.smallest_areas(nodes, cuts), random, tally);
     }
+}
+
+pub fn compare_twins(library: &dyn Library, random: &mut Random, tally: &mut Tally) {
+    compare_cases(library, CASES, random, tally);
     tally.name = Some("names that stand twice");
     for (text, number) in TEXTS {
         let import = compare_import(library, text.as_bytes(), random, tally);
@@ -89,8 +98,9 @@ fn compare_named(library: &dyn Library, name: &'static str, tree: &Tree, random:
 fn compare_longest_bytes(library: &dyn Library, random: &mut Random, tally: &mut Tally) {
     tally.name = Some("the longest bytes");
     let run = longest_run();
-    let tails: [&[u8]; 8] = [&[], &[7], &[7, 7], &[5, 0], &[6, 0, 0], &[2, 1], &[1, 0, 0, 0, 0], &[8]];
-    for tail in tails {
+    let inputs: [&[u8]; 4] = [&[5, 0], &[6, 0, 0], &[8, 0, 0], &[8, 0, 1]];
+    let others: [&[u8]; 6] = [&[], &[7], &[7, 7], &[2, 1], &[1, 0, 0, 0, 0], &[9]];
+    for tail in inputs.into_iter().chain(others) {
         compare_reading(library, &[&run[..], tail].concat(), random, tally);
         compare_reading(library, &[&run[..], tail, &[7; 5_000]].concat(), random, tally);
     }
@@ -123,7 +133,7 @@ fn compare_largest_diagrams(library: &dyn Library, random: &mut Random, tally: &
     tally.name = Some("lent diagrams of many nodes");
     for sort in [Sort::Function, Sort::Cuts] {
         for length in [MOST_NUMBERS, MOST_NUMBERS + 3] {
-            let empty = Lent { sort, event_count: 256, table: vec![9; length], node_count: 0, root: 1 };
+            let empty = Lent { sort, event_count: MOST_EVENTS as u64, table: vec![9; length], node_count: 0, root: 1 };
             compare_diagram(library, &empty, random, tally);
         }
         for _ in 0..3 {
@@ -145,7 +155,10 @@ fn compare_largest_diagrams(library: &dyn Library, random: &mut Random, tally: &
 fn compare_long_texts(library: &dyn Library, random: &mut Random, tally: &mut Tally) {
     const MANY: usize = 100_000;
     tally.name = Some("typed trees");
-    for text in [european::EQUATIONS, &city::equations(city::LARGE), &chain(MOST_GATES, false), &wide(64)] {
+    let cities = [city::LARGE, city::WIDE].map(city::equations);
+    for text in
+        [european::EQUATIONS, metropolis::EQUATIONS, &cities[0], &cities[1], &chain(MOST_GATES, false), &wide(64)]
+    {
         let import = compare_import(library, text.as_bytes(), random, tally);
         tally.same("a typed tree", 0, import.number);
         compare_export(library, &import.tree, random, tally);

@@ -9,7 +9,7 @@ use crate::listing::{list, Walk};
 use crate::random::Random;
 use crate::sets::Set;
 use crate::tally::Tally;
-use crate::tree::D;
+use crate::tree::{D, FIRST_WIDE_EVENT, MOST_EVENTS};
 
 /// A few listing calls from random starts into random rooms; then a handing on from the beginning.
 pub fn compare_list(library: &dyn Library, diagram: &Lent, random: &mut Random, tally: &mut Tally) {
@@ -25,7 +25,7 @@ pub fn compare_list(library: &dyn Library, diagram: &Lent, random: &mut Random, 
     }
     let mut after = None;
     for _ in 0..4 {
-        let room = random.between(0, 2 * whole / 3 + 1).min(3_000);
+        let room = random.between(0, 2 * whole / 3 + 1).min(6_000);
         let Some(last) = one_listing(library, diagram, after, room, random, tally, &before) else { break };
         after = Some(last);
     }
@@ -67,6 +67,10 @@ pub fn one_listing(
         tally.meet("unfinished", !answer.finished);
         tally.meet("into a room that is just full", used == room_length && used > 0);
         tally.meet("of 20 cuts or more", answer.written >= 20);
+        let (low, high) = (0..FIRST_WIDE_EVENT, FIRST_WIDE_EVENT..MOST_EVENTS as u32);
+        let last = expected.last;
+        tally.meet("with a cut across 256", answer.written > 0 && last.holds_any(low) && last.holds_any(high));
+        tally.large("members of a cut listed", last.members().len() as u64);
     }
     tally.same("listing", answer, got);
     tally.holds("guards of a listing", room.guards_stand());
@@ -84,7 +88,7 @@ pub fn compare_bracket(
     tally: &mut Tally,
 ) {
     let before = std::mem::take(&mut tally.input);
-    let events = diagram.event_count.min(300) as usize;
+    let events = diagram.event_count.min(1_100) as usize;
     for round in 0..2 {
         let mut chances = match chances {
             Some(chances) if round == 0 => chances.to_vec(),

@@ -14,7 +14,7 @@ use crate::memory::{lengths, Memory, Need};
 use crate::random::Random;
 use crate::sizes::*;
 use crate::tally::{hex, Tally};
-use crate::tree::Tree;
+use crate::tree::{Tree, MOST_EVENTS};
 
 /// The lists that a counting is lent, dirty.
 struct Counting {
@@ -99,7 +99,7 @@ fn one_counting(
     tally.due("sizes", number);
     if let Ok(counts) = &expected {
         tally.meet("families with the empty set", counts[0] == 1);
-        tally.meet("families with a set of all 256 events", counts[256] == 1);
+        tally.meet("families with a set of all 1,024 events", counts[MOST_EVENTS] == 1);
         tally.meet("families with a count above 2^63", counts.iter().any(|&count| count > 1 << 63));
         tally.meet("families with a count of 2^64 - 1", counts.contains(&u64::MAX));
         tally.large("sets of one size", counts.iter().copied().max().unwrap_or(0));
@@ -161,7 +161,10 @@ fn compare_folder_in(
     tally.holds("guards of a folder", all.iter().all(|area| area.guards_stand()));
     let stays = refused.is_some_and(|refused| refused.leaves_memory());
     if stays {
-        tally.holds("the first 9 and the first tree's 1 to 9 write nothing", all.iter().all(|area| area.unchanged()));
+        tally.holds(
+            "the first 9 and the first tree's 1 to 9 and 21 write nothing",
+            all.iter().all(|area| area.unchanged()),
+        );
     } else {
         tally.holds("a folder leaves zero", all.iter().all(|area| area.all(0)));
     }

@@ -1,7 +1,7 @@
-//! Damaged trees: for each number 1 to 8 bytes whose number and place follow from the damage itself.
+//! Damaged trees: for each number 1 to 8, and 21, bytes whose number and place follow from the damage itself.
 
 use crate::generator::{longest_shape, shape, small_shape, tree};
-use crate::judge::{write, Refusal};
+use crate::judge::{event_input_bytes, write, Refusal};
 use crate::random::Random;
 use crate::tree::*;
 use crate::unlawful::raw_bytes;
@@ -35,18 +35,20 @@ fn of_kinds(records: &Records, kinds: &[u8]) -> Vec<usize> {
 }
 
 /// The bytes of a record by its kind; there is no kind 0.
-const LENGTHS: [usize; 8] = [1, 5, 2, 2, 3, 2, 3, 1];
+const LENGTHS: [usize; 9] = [1, 5, 2, 2, 3, 2, 3, 1, 3];
 const GATES: [u8; 3] = [2, 3, 4];
-const INPUTS: [u8; 2] = [5, 6];
+const INPUTS: [u8; 3] = [5, 6, 8];
+/// The numbers that reading refuses with.
+pub const NUMBERS: [u32; 9] = [1, 2, 3, 4, 5, 6, 7, 8, 21];
 
 fn place_of_n(record: &[u8]) -> usize {
     record.len() - 1
 }
 
-/// Bytes that are refused with the number, 1 to 8. A wrong k of the gate at hand often stands before one of 1, 2, 3 and 6, and is not yet judged.
+/// Bytes that are refused with the number. A wrong k of the gate at hand often stands before one of 1, 2, 3, 6 and 21, and is not yet judged.
 pub fn damaged(random: &mut Random, number: u32) -> Damaged {
     let damaged = damaged_once(random, number);
-    if [1, 2, 3, 6].contains(&number) && random.once_in(3) {
+    if [1, 2, 3, 6, 21].contains(&number) && random.once_in(3) {
         return with_wrong_k(random, damaged);
     }
     damaged
@@ -55,7 +57,7 @@ pub fn damaged(random: &mut Random, number: u32) -> Damaged {
 fn damaged_once(random: &mut Random, number: u32) -> Damaged {
     let size = match random.below(40) {
         0 => longest_shape(),
-        1 => shape(random.between(100, 256), random.between(50, 512), 64),
+        1 => shape(random.between(100, MOST_EVENTS), random.between(50, MOST_GATES), 64),
         2..=9 => shape(random.between(5, 40), random.between(5, 40), 10),
         _ => small_shape(random),
     };
@@ -71,6 +73,7 @@ fn damaged_once(random: &mut Random, number: u32) -> Damaged {
         6 => wrong_input(random, &whole, &mut all),
         7 => wrong_chance(random, &mut all),
         8 => return unused(random, &whole),
+        21 => narrow_input(random, &mut all),
         _ => panic!("no damage gives {number}"),
     };
     finish(random, number, all, faulty)
@@ -103,8 +106,8 @@ fn cut_short(random: &mut Random, all: Records) -> Damaged {
 
 fn unknown_kind(random: &mut Random, all: &mut Records) -> usize {
     let index = random.below(all.len());
-    let kind = if random.once_in(4) { random.of(&[0, 8, 9, 0x11, 0x21, 0x22, 0xFF]) } else { random.byte() };
-    all[index][0] = if (1..=7).contains(&kind) { kind + 7 } else { kind };
+    let kind = if random.once_in(4) { random.of(&[0, 9, 0x0A, 0x11, 0x21, 0x23, 0xFF]) } else { random.byte() };
+    all[index][0] = if (1..=8).contains(&kind) { kind + 8 } else { kind };
     index
 }
 
@@ -163,10 +166,11 @@ fn out_of_place(random: &mut Random, mut all: Records) -> Damaged {
 }
 
 fn random_input(random: &mut Random) -> Vec<u8> {
-    if random.once_in(2) {
-        vec![5, random.byte()]
-    } else {
-        vec![6, random.byte(), random.byte()]
+    match random.below(3) {
+        0 => vec![5, random.byte()],
+        1 => vec![6, random.byte(), random.byte()],
+        // Also a number below 256: 3 comes before 21.
+        _ => vec![8, random.byte(), random.of(&[0, 1, 3, 4])],
     }
 }
 
@@ -180,7 +184,7 @@ fn count(random: &mut Random, whole: &Tree, mut all: Records) -> Damaged {
             finish(random, 4, all, index)
         }
         2 => {
-            // The 257th event; its chance no longer matters.
+            // The 1,025th event; its chance no longer matters.
             let more = MOST_EVENTS + 1 - whole.events();
             for _ in 0..more {
                 all.insert(whole.events(), vec![1, 0, 0, 0, 0]);
@@ -252,7 +256,7 @@ fn with_wrong_k(random: &mut Random, Damaged { mut bytes, mut expected }: Damage
         let length = LENGTHS[bytes[place] as usize];
         open = match bytes[place] {
             2..=4 => Some((place, bytes[place + length - 1])),
-            5 | 6 => open.map(|(gate, missing)| (gate, missing - 1)),
+            5 | 6 | 8 => open.map(|(gate, missing)| (gate, missing - 1)),
             _ => open,
         };
         place += length;
@@ -271,10 +275,11 @@ fn with_wrong_k(random: &mut Random, Damaged { mut bytes, mut expected }: Damage
 fn wrong_input(random: &mut Random, whole: &Tree, all: &mut Records) -> usize {
     let index = random.of(&of_kinds(all, &INPUTS));
     let own = of_kinds(&all[..index].to_vec(), &GATES).len() - 1;
-    let events = whole.events();
-    if random.once_in(2) && events < MOST_EVENTS {
-        let beyond = random.between(events, 255);
-        all[index] = vec![5, random.of(&[events as u8, 255, beyond as u8])];
+    if random.once_in(2) {
+        let events = whole.events();
+        let any = random.below(MOST_EVENTS);
+        let beyond = random.of(&[events, 255, 256, MOST_EVENTS, 0xFFFF, any]).max(events);
+        all[index] = event_input_bytes(beyond as u32);
     } else {
         let gate = random.of(&[own as u16, own as u16 + 1, 0xFFFF, 512, own as u16 | 0x100]);
         all[index] = [vec![6], gate.to_le_bytes().to_vec()].concat();
@@ -282,6 +287,14 @@ fn wrong_input(random: &mut Random, whole: &Tree, all: &mut Records) -> usize {
             all[index] = vec![6, 0xFF, 0xFF];
         }
     }
+    index
+}
+
+/// Kind 08 with a number below 256, which may be no event's.
+fn narrow_input(random: &mut Random, all: &mut Records) -> usize {
+    let index = random.of(&of_kinds(all, &INPUTS));
+    let any = random.byte();
+    all[index] = vec![8, random.of(&[0, 1, 255, any]), 0];
     index
 }
 

@@ -3,12 +3,15 @@
 
 use crate::lent::{Lent, Sort};
 use crate::random::Random;
+use crate::tree::MOST_EVENTS;
 
 pub fn good(random: &mut Random, sort: Sort, most_nodes: usize) -> Lent {
-    let event_count = match random.below(6) {
-        0 => 1,
-        1 => 256,
-        2 => random.between(1, 256),
+    let event_count = match random.below(12) {
+        0 | 1 => 1,
+        2 => random.between(250, 300),
+        3 => random.of(&[255, 256, 257, 512, MOST_EVENTS - 1, MOST_EVENTS]),
+        4 => random.between(1, MOST_EVENTS),
+        5 => random.between(1, 256),
         _ => random.between(1, 8),
     };
     let node_count = if random.once_in(10) { 0 } else { random.below(most_nodes + 1) };
@@ -43,7 +46,8 @@ fn node(random: &mut Random, sort: Sort, events: u32, number: u32, table: &[u32]
             Sort::Cuts => failed != 0,
         };
         if fits && limit > 0 {
-            let back = random.between(1, limit.min(3) as usize) as u32;
+            let most = if random.once_in(8) { limit } else { limit.min(3) };
+            let back = random.between(1, most as usize) as u32;
             return [limit - back, failed, sound];
         }
     }
@@ -56,7 +60,7 @@ pub fn damaged(random: &mut Random, sort: Sort, most_nodes: usize) -> Lent {
     let nodes = lent.node_count as usize;
     let some_node = if nodes > 0 { 3 * random.below(nodes) } else { 0 };
     match random.below(if nodes > 0 { 14 } else { 6 }) {
-        0 => lent.event_count = random.of(&[0, 257, 300, u32::MAX as u64, (1 << 32) + lent.event_count, u64::MAX]),
+        0 => lent.event_count = random.of(&[0, 1_025, 1_100, u32::MAX as u64, (1 << 32) + lent.event_count, u64::MAX]),
         1 => lent.table.push(0),
         2 => lent.table.extend([0, 0]),
         3 => lent.node_count = lent.table.len() as u64 / 3 + random.between(1, 3) as u64,

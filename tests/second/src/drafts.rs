@@ -181,7 +181,7 @@ impl Draft {
                 // A new root over gates of new events; the last of these may have any chance.
                 let mut inputs = vec![self.root()];
                 let mut last = 0;
-                for _ in 0..random.of(&[5, 5, 5, 12]) {
+                for _ in 0..random.of(&[20, 20, 20, 30]) {
                     let events: Vec<usize> = (0..random.between(52, 62)).map(|_| self.fresh(random)).collect();
                     last = events[events.len() - 1];
                     inputs.push(self.over(random, events));

@@ -5,7 +5,7 @@ use crate::changes::{Comparison, Difference, Side, Verdict};
 use crate::equations::LISTS;
 use crate::lent::Lent;
 use crate::library::*;
-use crate::sets::Set;
+use crate::sets::{Set, WORDS};
 use crate::sizes::COUNT_AREAS;
 use crate::tree::Tree;
 use std::cell::{Cell, RefCell};
@@ -277,8 +277,11 @@ impl Library for Driver {
         let request = Request::of(LIST).numbers(&diagram.table).number(diagram.event_count).number(diagram.node_count);
         let request = request.number(diagram.root).number(u64::from(after.is_none()));
         // From the beginning the set is not looked at.
-        let request = request.words(&after.map_or([u64::MAX, 1, 0, room.len() as u64], |set| set.0)).bytes(room);
-        let [number, place, written, used, finished, last @ ..]: [u64; 9] = self.ask(request, &mut [Area::Bytes(room)]);
+        let request = request
+            .words(&after.map_or([u64::MAX, 1, 0, room.len() as u64].repeat(WORDS / 4), |set| set.0.to_vec()))
+            .bytes(room);
+        let [number, place, written, used, finished, last @ ..]: [u64; 5 + WORDS] =
+            self.ask(request, &mut [Area::Bytes(room)]);
         if finished > 1 && self.fault.get().is_none() {
             self.fault.set(Some("finished is neither 0 nor 1"));
         }

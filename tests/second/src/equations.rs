@@ -266,7 +266,7 @@ impl<'a> Equations<'a> {
         for (event, &name) in events.iter().enumerate() {
             let chance = chances.get(self.names[name].letters).copied().unwrap_or(0);
             judge.take(Record::Event(chance), 0)?;
-            records[name] = Record::EventInput(event as u64);
+            records[name] = Record::of_event(event as u64);
         }
         for (gate, &name) in gates.iter().enumerate() {
             let Equation { kind, k, inputs, .. } = &self.all[self.of_left[name].expect("a gate is a left name")];

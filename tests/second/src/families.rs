@@ -39,7 +39,7 @@ use Layer::*;
 /// Towers of layers from the last event to the first, each on a leaf or on some node of those before; the root is mostly the top of the
 /// last one, which may be small where another is huge.
 pub fn towers(random: &mut Random) -> Lent {
-    let event_count = random.of(&[20, 64, 70, 128, 130, 200, 256]);
+    let event_count = random.of(&[20, 64, 70, 128, 130, 200, 256, 257, 300, 1_024]);
     let mut table = Table::default();
     // Each node with its event; the leaf 1 lies behind all events.
     let mut tops = vec![(event_count, 1)];
@@ -110,8 +110,8 @@ pub fn seeded(random: &mut Random) -> Lent {
     match random.below(12) {
         0 => all_but_one(random.between(1, 66) as u32),
         1 => all_but_one(64),
-        2 => every_set(random.of(&[1, 12, 67, 68, 256])),
-        3 => one_set(random.of(&[1, 255, 256])),
+        2 => every_set(random.of(&[1, 12, 67, 68, 256, 1_024])),
+        3 => one_set(random.of(&[1, 255, 256, 257, 1_023, 1_024])),
         _ => towers(random),
     }
 }

@@ -1,6 +1,6 @@
 //! Seeded folders: trees one behind the other, and the list of their lengths.
 
-use crate::damage::damaged;
+use crate::damage::{damaged, NUMBERS};
 use crate::generator::{and_of_ors, middle_shape, ors_from_the_last, small_shape, tree};
 use crate::judge::write;
 use crate::random::Random;
@@ -34,7 +34,7 @@ fn accepted(random: &mut Random, huge: bool) -> Vec<u8> {
     write(&made).expect("a generated tree is accepted")
 }
 
-/// Trees: all accepted, or one or two refused, by any of the numbers 1 to 8, first, last, or anywhere.
+/// Trees: all accepted, or one or two refused, by any of reading's numbers, first, last, or anywhere.
 fn trees(random: &mut Random) -> Vec<Vec<u8>> {
     let count = match random.below(30) {
         0 => 0,
@@ -48,7 +48,7 @@ fn trees(random: &mut Random) -> Vec<Vec<u8>> {
     for _ in 0..random.of(&[0, 0, 0, 1, 1, 2]) {
         if count > 0 {
             let anywhere = random.below(count);
-            let number = random.between(1, 8) as u32;
+            let number = random.of(&NUMBERS);
             trees[random.of(&[0, count - 1, anywhere])] = damaged(random, number).bytes;
         }
     }

@@ -46,14 +46,16 @@ pub fn middle_shape(random: &mut Random) -> Shape {
 
 /// Up to the limits; mostly too large for any table.
 pub fn large_shape(random: &mut Random) -> Shape {
-    let gates = random.between(64, MOST_GATES);
+    let (events, gates) = (random.between(64, MOST_EVENTS), random.between(64, MOST_GATES));
     let reach = random.between(2, 40);
     let inputs = if random.once_in(2) { random.between(gates, MOST_INPUTS) } else { 0 };
-    let widest = random.between(8, MOST_INPUTS_OF_A_GATE);
-    Shape { reach, inputs, ..shape(random.between(64, MOST_EVENTS), gates, widest) }
+    // Every event and every gate but the root has its place in some gate.
+    let least = (events + gates - 1).div_ceil(gates);
+    let widest = random.between(least.max(8), MOST_INPUTS_OF_A_GATE);
+    Shape { reach, inputs, ..shape(events, gates, widest) }
 }
 
-/// All counts at their maximum: 256 events, 512 gates, 4,096 inputs, and 14,849 bytes, since every gate
+/// All counts at their maximum: 1,024 events, 512 gates, 4,096 inputs, and 18,689 bytes, since every gate
 /// is an at-least and every event is an input once only.
 pub fn longest_shape() -> Shape {
     Shape {
@@ -65,28 +67,63 @@ pub fn longest_shape() -> Shape {
     }
 }
 
-/// Every count at its maximum, and yet a diagram of a few hundred nodes: each gate takes the one before it, some of its inputs
-/// often, and the events come in from the last to the first.
+/// Every count at its maximum, and yet a diagram of a few thousand nodes: each gate takes two events and the gate before it, some of
+/// its inputs often, and the events come in from the last to the first.
 pub fn narrow_tree(random: &mut Random) -> Tree {
     let mut tree = Tree::of_chances(&chances(random, MOST_EVENTS));
     let widest = random.between(1, MOST_GATES - 1);
     let shared = MOST_INPUTS - MOST_INPUTS_OF_A_GATE;
     let others = MOST_GATES - 1;
+    let mut unused = (0..MOST_EVENTS as u32).rev().map(Input::Event);
     for gate in 0..MOST_GATES {
         let width = match gate == widest {
             true => MOST_INPUTS_OF_A_GATE,
             false => shared / others + usize::from(gate - usize::from(gate > widest) < shared % others),
         };
-        let event = Input::Event((MOST_EVENTS - 1).saturating_sub(gate) as u32);
-        let below = if gate == 0 { event } else { Input::Gate(gate as u32 - 1) };
-        let mut inputs: Vec<Input> = (2..width).map(|_| random.of(&[event, below])).collect();
-        inputs.insert(random.below(inputs.len() + 1), event);
-        inputs.insert(random.below(inputs.len() + 1), below);
+        let mut own: Vec<Input> = unused.by_ref().take(MOST_EVENTS / MOST_GATES).collect();
+        own.extend(gate.checked_sub(1).map(|below| Input::Gate(below as u32)));
+        let mut inputs = own.clone();
+        inputs.extend((own.len()..width).map(|_| random.of(&own)));
+        shuffle(random, &mut inputs);
         let kind = random.of(&[AND, OR, AT_LEAST]);
         let k = threshold(random, kind, &inputs);
         tree.add_gate(kind, k, &inputs);
     }
     tree
+}
+
+/// 255 to 1,024 events, and a small diagram: each gate takes some events and the gate before it, and the events come in from the last
+/// to the first. Most cuts have members on both sides of 256.
+pub fn wide_tree(random: &mut Random) -> Tree {
+    let events = match random.below(3) {
+        0 => random.between(255, MOST_EVENTS),
+        1 => random.between(255, 260),
+        _ => random.of(&[255, 256, 257, 512, 513, 900, MOST_EVENTS - 1, MOST_EVENTS]),
+    };
+    let mut tree = Tree::of_chances(&chances(random, events));
+    let habits = random.of(&[&[AND][..], &[AND, AND, OR], &[AND, OR], &[OR, OR, AND]]);
+    let most = random.of(&[8, 20, MOST_INPUTS_OF_A_GATE - 1]);
+    let mut unused = events;
+    while unused > 0 {
+        let own = random.between(3, most).min(unused);
+        let mut inputs: Vec<Input> = (unused - own..unused).rev().map(|event| Input::Event(event as u32)).collect();
+        if let Some(below) = tree.gates.len().checked_sub(1) {
+            let place = if random.once_in(4) { random.below(own + 1) } else { 0 };
+            inputs.insert(place, Input::Gate(below as u32));
+        }
+        unused -= own;
+        // An at-least of many inputs has many nodes.
+        let kind = if own <= 6 && random.once_in(3) { AT_LEAST } else { random.of(habits) };
+        let k = threshold(random, kind, &inputs);
+        tree.add_gate(kind, k, &inputs);
+    }
+    tree
+}
+
+fn shuffle<T>(random: &mut Random, items: &mut [T]) {
+    for place in (1..items.len()).rev() {
+        items.swap(place, random.below(place + 1));
+    }
 }
 
 /// A k that these inputs allow, often the most that they do: as many as are distinct.
@@ -156,9 +193,7 @@ pub fn tree(random: &mut Random, shape: Shape) -> Tree {
             let beside = twin(random, &shape, gate, &inputs).filter(|_| random.once_in(2));
             inputs.push(beside.unwrap_or_else(|| again(random, &shape, gate)));
         }
-        for place in (1..inputs.len()).rev() {
-            inputs.swap(place, random.below(place + 1));
-        }
+        shuffle(random, &mut inputs);
         let kind = match shape.kinds {
             Kinds::All => random.of(&[AND, OR, AT_LEAST]),
             Kinds::OnlyAtLeast => AT_LEAST,
@@ -244,7 +279,7 @@ pub fn bytes(random: &mut Random) -> Vec<u8> {
         _ => random.below(300),
     };
     let small = random.once_in(2);
-    (0..length).map(|_| if small { random.below(9) as u8 } else { random.byte() }).collect()
+    (0..length).map(|_| if small { random.below(10) as u8 } else { random.byte() }).collect()
 }
 
 /// A start: from the beginning, after a set of the events, after a cut or near one, or after a set that
@@ -260,7 +295,7 @@ pub fn start(random: &mut Random, events: usize, cuts: &[Set]) -> Option<Set> {
             near.0[event / 64] ^= 1 << (event % 64);
             Some(near)
         }
-        6 if events < 256 => Some(Set::EMPTY.with(random.between(events, 255) as u32)),
+        6 if events < MOST_EVENTS => Some(Set::EMPTY.with(random.between(events, MOST_EVENTS - 1) as u32)),
         _ => {
             let often = random.between(1, 4);
             let members = (0..events as u32).filter(|_| random.once_in(often));
@@ -281,15 +316,13 @@ pub fn room(random: &mut Random, whole: usize) -> usize {
     }
 }
 
-/// 15,103 bytes, the longest run of records without a fault before the end: event inputs only where nothing else is allowed.
+/// 18,944 bytes, the longest run of records without a fault before the end: every input has three bytes, those of gate 0 as event 256.
 pub fn longest_run() -> Vec<u8> {
     let mut run = [1, 0, 0, 0, 0].repeat(MOST_EVENTS);
-    run.extend([4, 1, 1, 5, 0]);
-    let others = MOST_GATES - 1;
-    for gate in 1..MOST_GATES {
-        let n = (MOST_INPUTS - 1) / others + usize::from(gate <= (MOST_INPUTS - 1) % others);
+    let n = MOST_INPUTS / MOST_GATES;
+    for gate in 0..MOST_GATES {
         run.extend([4, 1, n as u8]);
-        run.extend([6, 0, 0].repeat(n));
+        run.extend(if gate == 0 { [8, 0, 1] } else { [6, 0, 0] }.repeat(n));
     }
     run
 }

@@ -1,4 +1,4 @@
-//! Tree records: decoding, numbers 1 to 8 with their places, reading and writing.
+//! Tree records: decoding, numbers 1 to 8 and 21 with their places, reading and writing.
 //!
 //! The judge takes records with plain numbers as fields, one after another, so that bytes and trees
 //! in memory (some of which no bytes can hold) are refused by the same rules.
@@ -11,6 +11,13 @@ pub struct Refusal {
     pub place: u64,
 }
 
+impl Refusal {
+    /// Numbers 10 and 11 leave zero in all that an analysis was lent; the others write nothing at all.
+    pub fn leaves_zero(&self) -> bool {
+        [10, 11].contains(&self.number)
+    }
+}
+
 pub fn refuse<T>(number: u32, place: u64) -> Result<T, Refusal> {
     Err(Refusal { number, place })
 }
@@ -18,43 +25,96 @@ pub fn refuse<T>(number: u32, place: u64) -> Result<T, Refusal> {
 #[derive(Clone, Copy, Debug, PartialEq, Eq)]
 pub enum Record {
     Event(u64),
-    Gate { kind: u32, k: u64, n: u64 },
+    Gate {
+        kind: u32,
+        k: u64,
+        n: u64,
+    },
     EventInput(u64),
+    /// Kind 08: an event input with a body of two bytes.
+    WideInput(u64),
     GateInput(u64),
     End,
 }
 
-/// Bytes of the body, by kind; `None` for an unknown kind.
-fn body_length(kind: u32) -> Option<usize> {
-    match kind {
-        1 => Some(4),
-        2 | 3 | 5 => Some(1),
-        4 | 6 => Some(2),
-        7 => Some(0),
-        _ => None,
+impl Record {
+    /// An event as an input: the kind goes by the number.
+    pub fn of_event(event: u64) -> Record {
+        match event < FIRST_WIDE_EVENT as u64 {
+            true => Record::EventInput(event),
+            false => Record::WideInput(event),
+        }
     }
 }
 
-/// The record at `place` and its length: 2 before 1.
-pub fn decode(bytes: &[u8], place: usize) -> Result<(Record, usize), Refusal> {
-    let kind = bytes[place] as u32;
-    let Some(length) = body_length(kind) else { return refuse(2, place as u64) };
-    let Some(body) = bytes.get(place + 1..place + 1 + length) else { return refuse(1, place as u64) };
-    let low_first = |part: &[u8]| part.iter().rev().fold(0u64, |n, &b| n * 256 + b as u64);
-    let record = match kind {
-        1 => Record::Event(low_first(body)),
-        2 | 3 => Record::Gate { kind, k: 0, n: body[0] as u64 },
-        4 => Record::Gate { kind, k: body[0] as u64, n: body[1] as u64 },
-        5 => Record::EventInput(body[0] as u64),
-        6 => Record::GateInput(low_first(body)),
-        _ => Record::End,
-    };
-    Ok((record, 1 + length))
+/// What request 7 changed about reading: how many events there may be, and whether kind 08 is known.
+#[derive(Clone, Copy, Debug)]
+pub struct Reader {
+    pub most_events: usize,
+    pub wide: bool,
+}
+
+pub const READER: Reader = Reader { most_events: MOST_EVENTS, wide: true };
+/// The reader before request 7.
+pub const OLD_READER: Reader = Reader { most_events: 256, wide: false };
+
+impl Default for Reader {
+    fn default() -> Reader {
+        READER
+    }
+}
+
+impl Reader {
+    /// Bytes of the body, by kind; `None` for an unknown kind.
+    fn body_length(self, kind: u32) -> Option<usize> {
+        match kind {
+            1 => Some(4),
+            2 | 3 | 5 => Some(1),
+            4 | 6 => Some(2),
+            7 => Some(0),
+            8 if self.wide => Some(2),
+            _ => None,
+        }
+    }
+
+    /// The record at `place` and its length: 2 before 1.
+    pub fn decode(self, bytes: &[u8], place: usize) -> Result<(Record, usize), Refusal> {
+        let kind = bytes[place] as u32;
+        let Some(length) = self.body_length(kind) else { return refuse(2, place as u64) };
+        let Some(body) = bytes.get(place + 1..place + 1 + length) else { return refuse(1, place as u64) };
+        let low_first = |part: &[u8]| part.iter().rev().fold(0u64, |n, &b| n * 256 + b as u64);
+        let record = match kind {
+            1 => Record::Event(low_first(body)),
+            2 | 3 => Record::Gate { kind, k: 0, n: body[0] as u64 },
+            4 => Record::Gate { kind, k: body[0] as u64, n: body[1] as u64 },
+            5 => Record::EventInput(body[0] as u64),
+            6 => Record::GateInput(low_first(body)),
+            8 => Record::WideInput(low_first(body)),
+            _ => Record::End,
+        };
+        Ok((record, 1 + length))
+    }
+
+    /// Bytes to a tree.
+    pub fn read(self, bytes: &[u8]) -> Result<Tree, Refusal> {
+        let mut judge = Judge { reader: self, ..Judge::default() };
+        let mut place = 0;
+        while place < bytes.len() {
+            let (record, length) = self.decode(bytes, place)?;
+            if record == Record::End {
+                return judge.end(place as u64, place + 1 < bytes.len());
+            }
+            judge.take(record, place as u64)?;
+            place += length;
+        }
+        refuse(1, bytes.len() as u64)
+    }
 }
 
 /// What the records so far have declared, and where.
 #[derive(Default)]
 pub struct Judge {
+    reader: Reader,
     tree: Tree,
     event_places: Vec<u64>,
     gate_places: Vec<u64>,
@@ -63,14 +123,14 @@ pub struct Judge {
 }
 
 impl Judge {
-    /// Every record but the end: 3, then 4, then 6 or 7; after a gate's last input 5, for the gate.
+    /// Every record but the end: 3, then 4, then 21, then 6 or 7; after a gate's last input 5, for the gate.
     pub fn take(&mut self, record: Record, place: u64) -> Result<(), Refusal> {
         match record {
             Record::Event(chance) => {
                 if !self.tree.gates.is_empty() {
                     return refuse(3, place);
                 }
-                if self.tree.chances.len() == MOST_EVENTS {
+                if self.tree.chances.len() == self.reader.most_events {
                     return refuse(4, place);
                 }
                 if chance > D as u64 {
@@ -98,9 +158,12 @@ impl Judge {
                 self.tree.gates.push(Gate { kind, k, n: n as u32 });
                 self.gate_places.push(place);
             }
-            Record::EventInput(event) => {
+            Record::EventInput(event) | Record::WideInput(event) => {
                 if self.missing_inputs == 0 {
                     return refuse(3, place);
+                }
+                if record != Record::of_event(event) {
+                    return refuse(21, place);
                 }
                 if event >= self.tree.chances.len() as u64 {
                     return refuse(6, place);
@@ -179,17 +242,7 @@ impl Judge {
 
 /// Bytes to a tree.
 pub fn read(bytes: &[u8]) -> Result<Tree, Refusal> {
-    let mut judge = Judge::default();
-    let mut place = 0;
-    while place < bytes.len() {
-        let (record, length) = decode(bytes, place)?;
-        if record == Record::End {
-            return judge.end(place as u64, place + 1 < bytes.len());
-        }
-        judge.take(record, place as u64)?;
-        place += length;
-    }
-    refuse(1, bytes.len() as u64)
+    READER.read(bytes)
 }
 
 /// A tree to its bytes, refused as those bytes would be.
@@ -230,8 +283,8 @@ fn write_input(input: Input, judge: &mut Judge, bytes: &mut Vec<u8>) -> Result<(
     let place = bytes.len() as u64;
     match input {
         Input::Event(event) => {
-            judge.take(Record::EventInput(event as u64), place)?;
-            bytes.extend([5, event as u8]);
+            judge.take(Record::of_event(event as u64), place)?;
+            bytes.extend(event_input_bytes(event));
         }
         Input::Gate(gate) => {
             judge.take(Record::GateInput(gate as u64), place)?;
@@ -240,6 +293,22 @@ fn write_input(input: Input, judge: &mut Judge, bytes: &mut Vec<u8>) -> Result<(
         }
     }
     Ok(())
+}
+
+/// Kind 05 with one byte for numbers below 256, kind 08 with two for those from 256 on.
+pub fn event_input_bytes(event: u32) -> Vec<u8> {
+    match event < FIRST_WIDE_EVENT {
+        true => vec![5, event as u8],
+        false => [&[8], &(event as u16).to_le_bytes()[..]].concat(),
+    }
+}
+
+/// The bytes of an input's record.
+pub fn input_length(input: &Input) -> u64 {
+    match *input {
+        Input::Event(event) => event_input_bytes(event).len() as u64,
+        Input::Gate(_) => 3,
+    }
 }
 
 /// Writing into a lent room: the tree's own fault first, then 9 for a short room, which then stays as

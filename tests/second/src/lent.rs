@@ -1,5 +1,7 @@
 //! Lent diagrams and number 12.
 
+use crate::tree::MOST_EVENTS;
+
 pub const MOST_NUMBERS: usize = 3_000_000;
 
 #[derive(Clone, Copy, Debug, PartialEq, Eq)]
@@ -40,7 +42,7 @@ impl Lent {
 
     /// Whether it is a diagram; 12 otherwise.
     pub fn is_diagram(&self) -> bool {
-        (1..=256).contains(&self.event_count)
+        (1..=MOST_EVENTS as u64).contains(&self.event_count)
             && self.table.len() % 3 == 0
             && self.table.len() <= MOST_NUMBERS
             && self.node_count <= self.table.len() as u64 / 3

@@ -2,6 +2,7 @@
 
 use crate::lent::Lent;
 use crate::sets::Set;
+use crate::tree::MOST_EVENTS;
 
 /// What a listing call answers. The place is 0 always. The bytes go to the front of the room.
 #[derive(Clone, Debug, PartialEq, Eq)]
@@ -23,7 +24,7 @@ pub fn list(diagram: &Lent, after: Option<Set>, room: usize) -> Listing {
     if !diagram.is_diagram() {
         return refused(12);
     }
-    let beyond = diagram.event_count as u32..256;
+    let beyond = diagram.event_count as u32..MOST_EVENTS as u32;
     if after.is_some_and(|start| start.holds_any(beyond)) {
         return refused(13);
     }
@@ -86,7 +87,7 @@ impl Iterator for Walk<'_> {
             }
             if node == 1 {
                 // The rest of the events is absent: after the start only if it has one of them.
-                if !tied || self.start.holds_any(decided..256) {
+                if !tied || self.start.holds_any(decided..MOST_EVENTS as u32) {
                     return Some(members);
                 }
                 continue;

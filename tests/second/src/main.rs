@@ -7,16 +7,18 @@ use second::brute_cuts;
 use second::city;
 use second::equations::{export, name_at, typed, Import};
 use second::folders::Folder;
-use second::generator::{middle_shape, tree};
-use second::judge::{read, write, Refusal};
+use second::generator::{middle_shape, tree, wide_tree};
+use second::judge::{read, write, Refusal, OLD_READER, READER};
 use second::listing::list;
 use second::program::{program, report};
 use second::random::Random;
 use second::sizes::{folder, RefusedFolder};
+use second::tree::Tree;
 use std::io::{self, Read, Write};
 use std::process::exit;
 
 const USAGE: &str = "second judge FILE              accepted, or refused with number and place
+second old FILE                the same by the reader before request 7
 second analyse FILE [NODES [CUTS]]  the program's report; capacities in nodes, else as large as allowed
 second counts FILE             counts only, without the list of cuts
 second brute FILE              nodes by gate, cut nodes and cuts by truth tables; 12 events or so
@@ -26,8 +28,8 @@ second equations FILE          the bytes of the tree that typed equations say
 second names FILE              the numbers that those equations' names get
 second export FILE             a tree's bytes as equations
 second sizes FILE..            how many cuts of each size the trees have together
-second city small|middle|large the equations of a city-like tree
-second random SEED             the bytes of a seeded tree of middle size
+second city SIZE               the equations of a city-like tree: small, middle, large, or wide of 900 events
+second random SEED [wide]      the bytes of a seeded tree of middle size, or of 255 to 1,024 events
 a FILE of - is the standard input";
 
 fn main() {
@@ -43,14 +45,21 @@ fn main() {
     }
     if words[0] == "random" {
         let random = &mut Random::new(number(&words[1]) as u64);
-        let shape = middle_shape(random);
-        let _ = out.write_all(&write(&tree(random, shape)).expect("a generated tree is accepted"));
+        let tree = match words.get(2) {
+            Some(_) => wide_tree(random),
+            None => {
+                let shape = middle_shape(random);
+                tree(random, shape)
+            }
+        };
+        let _ = out.write_all(&write(&tree).expect("a generated tree is accepted"));
         return;
     }
     let bytes = contents(&words[1]);
     let capacity = |at: usize| words.get(at).map_or(1_000_000, number);
     let done = match words[0].as_str() {
-        "judge" => judge(&bytes, out),
+        "judge" => judge(READER.read(&bytes), out),
+        "old" => judge(OLD_READER.read(&bytes), out),
         "analyse" => report(&bytes, Lengths::of_capacities(capacity(2), capacity(3)), true, out),
         "counts" => counts(&bytes, out),
         "brute" => brute(&bytes, out),
@@ -82,8 +91,8 @@ fn contents(file: &str) -> Vec<u8> {
     bytes
 }
 
-fn judge(bytes: &[u8], out: &mut dyn Write) -> io::Result<()> {
-    match read(bytes) {
+fn judge(reading: Result<Tree, Refusal>, out: &mut dyn Write) -> io::Result<()> {
+    match reading {
         Ok(tree) => writeln!(
             out,
             "accepted: {} events, {} gates, {} inputs",
@@ -167,6 +176,7 @@ fn city(size: &str, out: &mut dyn Write) -> io::Result<()> {
         "small" => city::SMALL,
         "middle" => city::MIDDLE,
         "large" => city::LARGE,
+        "wide" => city::WIDE,
         _ => {
             eprintln!("{USAGE}");
             exit(2);

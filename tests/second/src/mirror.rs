@@ -46,7 +46,7 @@ pub fn lay_out_counts(counts: Option<&[u64]>, counting: CountAreas) {
 /// What an analysis leaves and answers, of whichever program.
 pub fn lay_out_analysis(done: Result<Analysis, Refusal>, mut areas: Areas, added: &mut [u32]) -> AnalyseAnswer {
     let refusal = done.as_ref().err().copied();
-    if refusal.is_none_or(|refusal| refusal.number >= 10) {
+    if refusal.is_none_or(|refusal| refusal.leaves_zero()) {
         areas.again().clear();
         added.fill(0);
     }

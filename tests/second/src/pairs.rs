@@ -4,10 +4,11 @@ use crate::diagrams;
 use crate::lent::Sort;
 use crate::listing::Walk;
 use crate::random::Random;
-use crate::sets::Set;
+use crate::sets::{member_bytes, Set};
+use crate::tree::MOST_EVENTS;
 
-/// Events that look like kinds, and the ends of the range.
-const TELLING: [u32; 9] = [0, 1, 0x20, 0x21, 0x22, 0x23, 0x24, 254, 255];
+/// Events whose bytes look like kinds, and the ends of the ranges.
+const TELLING: [u32; 16] = [0, 1, 0x20, 0x21, 0x22, 0x23, 0x24, 254, 255, 256, 257, 0x121, 0x122, 0x223, 0x322, 1_023];
 
 pub fn bytes_of(sets: &[Set]) -> Vec<u8> {
     sets.iter().flat_map(Set::cut_bytes).collect()
@@ -19,19 +20,24 @@ pub fn family(random: &mut Random) -> Vec<Set> {
         0 => {
             let events = random.between(1, 4) as u32;
             let part = random.between(1, 4);
-            (0..1u64 << events).filter(|_| random.below(4) < part).map(|set| Set([set, 0, 0, 0])).collect()
+            let first = random.of(&[0, 254, 1_020]);
+            (0..1usize << events).filter(|_| random.below(4) < part).map(|set| Set::from_number(first, set)).collect()
         }
-        1 => (0..random.below(30)).map(|_| members(random, |random| random.below(256) as u32, 6)).collect(),
+        1 => (0..random.below(30)).map(|_| members(random, any_event, 6)).collect(),
         2 => {
             let diagram = diagrams::good(random, Sort::Cuts, 20);
             Walk::new(&diagram, None).take(40).collect()
         }
-        3 => (0..random.below(4)).map(|_| members(random, |random| random.below(256) as u32, 700)).collect(),
+        3 => (0..random.below(4)).map(|_| members(random, any_event, 2_000)).collect(),
         _ => (0..random.below(20)).map(|_| members(random, |random| random.of(&TELLING), 5)).collect(),
     };
     sets.sort_by(Set::order);
     sets.dedup();
     sets
+}
+
+fn any_event(random: &mut Random) -> u32 {
+    random.below(MOST_EVENTS) as u32
 }
 
 fn members(random: &mut Random, event: impl Fn(&mut Random) -> u32, most: usize) -> Set {
@@ -91,33 +97,47 @@ pub fn damaged(random: &mut Random, listing: &[u8]) -> Vec<u8> {
     bytes
 }
 
+/// A cut's members, each with its kind, and its end.
+fn records(set: &Set) -> Vec<Vec<u8>> {
+    set.members().into_iter().map(member_bytes).chain([vec![0x22]]).collect()
+}
+
 /// Damage by cuts: one twice, two changed over, members that fall or repeat, an end lost, something behind the empty cut,
-/// a member of kind 23 or 24.
+/// a member miswritten.
 fn damaged_cuts(random: &mut Random, listing: &[u8]) -> Vec<u8> {
     let Some(all) = crate::changes::cuts_of(listing).filter(|cuts| !cuts.is_empty()) else {
         return vec![random.of(&[0x21, 0x23, 0x24, 0])];
     };
-    let mut cuts: Vec<Vec<u8>> = all.iter().map(|cut| listing[cut.start..cut.end].to_vec()).collect();
+    let mut cuts: Vec<Vec<Vec<u8>>> = all.iter().map(|cut| records(&cut.set)).collect();
     let own = random.below(cuts.len());
-    let size = cuts[own].len() / 2;
-    let member = 2 * random.below(size.max(1));
-    match random.below(8) {
+    let size = cuts[own].len() - 1;
+    let member = random.below(size.max(1));
+    match random.below(9) {
         0 => cuts.insert(own, cuts[own].clone()),
         1 => cuts.swap(own, random.below(all.len())),
-        2 if size > 1 => cuts[own][..2 * size].rotate_right(2),
+        2 if size > 1 => cuts[own][..size].rotate_right(1),
         3 if size > 0 => {
-            let twice = cuts[own][member..member + 2].to_vec();
-            drop(cuts[own].splice(member..member, twice));
+            let twice = cuts[own][member].clone();
+            cuts[own].insert(member, twice);
         }
         4 => drop(cuts[own].pop()),
-        5 => cuts.extend([vec![0x22], all[own].set.cut_bytes()]),
-        6 if size > 0 => {
-            let event = cuts[own][member + 1];
-            drop(cuts[own].splice(member..member + 2, [random.of(&[0x23, 0x24]), event, random.of(&[0, 0, 1])]));
-        }
-        _ => cuts[own].insert(2 * size, random.of(&[0x23, 0x24, 0x20])),
+        5 => cuts.extend([vec![vec![0x22]], records(&all[own].set)]),
+        6 | 7 if size > 0 => cuts[own][member] = miswritten(random, &cuts[own][member]),
+        _ => cuts[own].insert(size, vec![random.of(&[0x23, 0x24, 0x20])]),
     }
-    cuts.concat()
+    cuts.concat().concat()
+}
+
+/// A member with kind 23 and a number below 256 or beyond all events, with its high byte lost or first, or with kind 24.
+fn miswritten(random: &mut Random, member: &[u8]) -> Vec<u8> {
+    let (low, high) = (member[1], member.get(2).copied().unwrap_or(0));
+    match random.below(5) {
+        0 => vec![0x23, low, 0],
+        1 => vec![0x23, low, random.of(&[4, 5, 255])],
+        2 => vec![0x21, low],
+        3 => vec![0x23, high, low],
+        _ => vec![0x24, low, high],
+    }
 }
 
 /// Yesterday and today: good, or with a fault on one side or on both.

@@ -7,7 +7,7 @@ use crate::listing::Walk;
 use std::io::{self, Write};
 
 /// The program reads no more than this.
-pub const MOST_READ: usize = 16_384;
+pub const MOST_READ: usize = 20_480;
 /// The nodes that it lends to each table.
 pub const LENT_NODES: usize = 4_096;
 

@@ -6,7 +6,7 @@ use crate::judge::{refuse, Refusal};
 use crate::lent::Lent;
 use crate::tree::{MOST_EVENTS, MOST_GATES};
 
-/// One count for each size, from 0 to 256.
+/// One count for each size, from 0 to 1,024.
 pub const SIZES: usize = MOST_EVENTS + 1;
 pub const MOST_TREES: usize = 64;
 /// The areas that counting works in.
@@ -29,7 +29,7 @@ pub fn by_size(diagram: &Lent) -> Vec<u128> {
     counts.remove(&diagram.root_node()).expect("the root is a leaf or reaches itself")
 }
 
-/// All 257 counts; 19 if one of them is above 2^64 − 1.
+/// All 1,025 counts; 19 if one of them is above 2^64 − 1.
 fn answered(mut counts: Vec<u128>) -> Result<Vec<u64>, Refusal> {
     counts.resize(SIZES, 0);
     counts.into_iter().map(|count| u64::try_from(count).or(refuse(19, 0))).collect()
@@ -61,7 +61,7 @@ impl RefusedFolder {
 
     /// Whether what was lent to the analyses and to the counting stays as it was; otherwise it ends zero.
     pub fn leaves_memory(&self) -> bool {
-        self.tree == 0 && self.number <= 9
+        self.tree == 0 && ![10, 11, 19].contains(&self.number)
     }
 }
 

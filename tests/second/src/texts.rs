@@ -73,6 +73,8 @@ fn outside(random: &mut Random, good: &[u8]) -> Vec<u8> {
     let blank = random.of(&blanks);
     let others: Vec<usize> = (0..good.len()).filter(|&place| good[place].is_ascii_alphanumeric()).collect();
     let other = random.of(&others);
+    // Where a number begins, if there is one, else where the line does; no name begins with a digit.
+    let number = blanks.iter().map(|&blank| blank + 1).find(|&place| good[place].is_ascii_digit()).unwrap_or(0);
     match random.below(16) {
         0 => bytes.push(b'\r'),
         1 => bytes.push(b' '),
@@ -82,6 +84,7 @@ fn outside(random: &mut Random, good: &[u8]) -> Vec<u8> {
         5 => drop(bytes.remove(blank)),
         6 => bytes.clear(),
         7 => bytes[other] = random.of(b"_-.+&|;:*\0\xFF\xC3@[`{/"),
+        8 => bytes.insert(number, b'0'),
         _ => return random.of(OUTSIDE).into(),
     }
     bytes

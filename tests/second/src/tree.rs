@@ -3,18 +3,21 @@
 /// The billionths in one: chances are whole numbers of them.
 pub const D: u32 = 1_000_000_000;
 
-pub const MOST_EVENTS: usize = 256;
+pub const MOST_EVENTS: usize = 1_024;
 pub const MOST_GATES: usize = 512;
 pub const MOST_INPUTS_OF_A_GATE: usize = 64;
 pub const MOST_INPUTS: usize = 4_096;
-pub const LONGEST_TREE: usize = 14_849;
+pub const LONGEST_TREE: usize = 18_689;
+
+/// Events from this number on have two bytes in a record, those below it one.
+pub const FIRST_WIDE_EVENT: u32 = 256;
 
 pub const AND: u32 = 2;
 pub const OR: u32 = 3;
 pub const AT_LEAST: u32 = 4;
 
-/// In the flat list of inputs event e stands as e and gate g as 256 + g.
-pub const FIRST_GATE_INPUT: u32 = 256;
+/// In the flat list of inputs event e stands as e and gate g as 1,024 + g.
+pub const FIRST_GATE_INPUT: u32 = MOST_EVENTS as u32;
 
 #[derive(Clone, Copy, Debug, PartialEq, Eq)]
 pub struct Gate {

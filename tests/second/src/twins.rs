@@ -32,7 +32,7 @@ impl Case {
     }
 }
 
-const fn case(what: &'static str, events: usize, gates: &'static str, due: Due) -> Case {
+pub const fn case(what: &'static str, events: usize, gates: &'static str, due: Due) -> Case {
     Case { what, events, gates, due }
 }
 
@@ -63,7 +63,7 @@ pub const CASES: &[Case] = &[
     case("k above n, a gate for an input", 1, "040302 0500 0201 0500 07", Refused(3, 10)),
     case("k above n, an event for an input", 1, "040302 0500 0100000000", Refused(3, 10)),
     case("k above n, the end for an input", 1, "040302 0500 07", Refused(3, 10)),
-    case("k above n, an unknown kind", 1, "040302 0500 08", Refused(2, 10)),
+    case("k above n, an unknown kind", 1, "040302 0500 0A", Refused(2, 10)),
     case("k of 0, a bad input", 1, "040001 0501 07", Refused(6, 8)),
     case("k of 0, ended", 1, "040001", Refused(1, 8)),
     // The next record is not looked at, whatever it is.

@@ -1,6 +1,7 @@
 //! Trees in memory that may break any rule, also such as no bytes can hold, and the bytes of trees without any judgement.
 
-use crate::generator::{longest_shape, small_shape, tree};
+use crate::generator::{longest_shape, small_shape, tree, wide_tree};
+use crate::judge::event_input_bytes;
 use crate::random::Random;
 use crate::tree::*;
 
@@ -19,7 +20,7 @@ pub fn raw_bytes(tree: &Tree) -> Vec<u8> {
         bytes.push(gate.n as u8);
         for input in inputs {
             match input {
-                Input::Event(event) => bytes.extend([5, event as u8]),
+                Input::Event(event) => bytes.extend(event_input_bytes(event)),
                 Input::Gate(gate) => {
                     bytes.push(6);
                     bytes.extend((gate as u16).to_le_bytes());
@@ -56,8 +57,14 @@ pub fn tree_in_memory(random: &mut Random) -> Tree {
     if random.once_in(4) {
         return tree_without_plan(random);
     }
-    let size = if random.once_in(30) { longest_shape() } else { small_shape(random) };
-    let mut tree = tree(random, size);
+    let mut tree = match random.below(30) {
+        0 => tree(random, longest_shape()),
+        1 => wide_tree(random),
+        _ => {
+            let shape = small_shape(random);
+            tree(random, shape)
+        }
+    };
     if random.once_in(4) {
         return tree;
     }
@@ -66,7 +73,7 @@ pub fn tree_in_memory(random: &mut Random) -> Tree {
     let input = random.below(tree.inputs.len());
     let large = random.next() as u32;
     match random.below(15) {
-        0 => tree.event_count += random.of(&[1, 2, 300, 1 << 32, u64::MAX >> 1]),
+        0 => tree.event_count += random.of(&[1, 2, 1_100, 1 << 32, u64::MAX >> 1]),
         1 => tree.gate_count += random.of(&[1, 2, 600, 1 << 32, u64::MAX >> 1]),
         2 => tree.event_count = random.below(tree.chances.len() + 1) as u64,
         3 => tree.gate_count = random.below(tree.gates.len() + 1) as u64,
@@ -88,11 +95,14 @@ pub fn tree_in_memory(random: &mut Random) -> Tree {
                 own[input] = own[random.below(own.len())];
             }
             if random.once_in(2) {
-                own[random.below(own.len())] = random.of(&[255, 256 + gate as u32, 0xFFFF]);
+                own[random.below(own.len())] = random.of(&[255, 256, FIRST_GATE_INPUT + gate as u32, 0xFFFF]);
             }
         }
-        8 => tree.inputs[input] = random.of(&[0, 255, 256, 256 + gate as u32, 511, 768, 0xFFFF, large % 65_536]),
-        9 => tree.inputs[input] = random.below(600) as u32,
+        8 => {
+            let own = FIRST_GATE_INPUT + gate as u32;
+            tree.inputs[input] = random.of(&[0, 255, 256, 1_023, 1_024, own, 1_535, 1_536, 0xFFFF, large % 65_536]);
+        }
+        9 => tree.inputs[input] = random.below(1_600) as u32,
         10 => tree.chances.truncate(event),
         _ => tree.inputs.truncate(input),
     }

@@ -18,6 +18,7 @@ use crate::wrong_equations::{wrong_export, wrong_import};
 use crate::wrong_lent::{wrong_bracket, wrong_list};
 use crate::wrong_sizes::{wrong_folder, wrong_sizes};
 use crate::wrong_twins::{counted, wrong_read, wrong_write};
+use crate::wrong_wide::{wide_list, wide_read, wide_write};
 
 // One name for each fault, and the list of them all.
 macro_rules! wrongs {
@@ -42,6 +43,12 @@ wrongs! {
     FiveOfAllInputs,
     FiveByNumbersAlone,
     TwinsDroppedFromJoins,
+    NarrowPasses,
+    TwentyOneAfterSix,
+    TwentyOneBeforeThree,
+    WideInputsHighByteFirst,
+    FourAtTheOldLimit,
+    GatesFrom256,
     // Writing.
     WritesUntilFull,
     ZerosBehindTheTree,
@@ -49,6 +56,8 @@ wrongs! {
     UseNotJudgedOnWriting,
     WritesFiveAtOnce,
     WritesFiveOfAllInputs,
+    WideInputsThroughout,
+    InputsCutToAByte,
     // Analysis.
     SafeBound,
     OrForAtLeastOne,
@@ -57,6 +66,7 @@ wrongs! {
     NodesStayOnEleven,
     DirtBehindTheNodes,
     ClearsBeforeNine,
+    TwentyOneLeavesZero,
     OneNodeForAllGates,
     AreaLeftDirty,
     CountKeptInRefusal,
@@ -86,7 +96,7 @@ wrongs! {
     FinishedIfRoomIsLeft,
     NoCutStartsAtBeginning,
     BeginningIsAfterEmpty,
-    FourteenBelow513,
+    FourteenBelowTheLongest,
     WritesNothing,
     LastSetForgotten,
     SkipsWhatDoesNotFit,
@@ -94,6 +104,14 @@ wrongs! {
     NoThirteen,
     ThirteenSaysTheEvent,
     ZerosBehindTheCuts,
+    WideMembersThroughout,
+    MembersCutToAByte,
+    MembersHighByteFirst,
+    HighWordsNotCompared,
+    LastWithoutHighWords,
+    ThirteenOfLowWords,
+    LongCutsOverrun,
+    ThreeBytesForEach,
     // Bracket.
     ZeroToOne,
     LowTwice,
@@ -106,6 +124,7 @@ wrongs! {
     JudgesReachedNodesOnly,
     RefusesEqualNodes,
     RefusesEqualBranchesOfCuts,
+    TwelveAbove256,
     // Import.
     LineFaultAfterSixteen,
     ChanceJudgedByEarlierEquations,
@@ -136,6 +155,7 @@ wrongs! {
     EventsByFirstLine,
     OneOfOneIsOr,
     ImportsFiveOfAllInputs,
+    ImportStopsAt256,
     ShownInAnyLine,
     ShownStaysOnRefusal,
     ListLeftDirty,
@@ -159,7 +179,8 @@ wrongs! {
     ZerosBehindTheCounts,
     CountingAreaLeftDirty,
     CountingAreasStayOnNineteen,
-    CountsNeedNotReach256,
+    CountsNeedNotReach1024,
+    CountsStopAt256,
     NineBeforeTwelveOfSizes,
     // Folder.
     FirstSixtyFourTrees,
@@ -180,7 +201,10 @@ wrongs! {
     FolderTenWithoutAGate,
     // Listings compared.
     EndOfCutLacks,
-    Kind23Taken,
+    NarrowMembersTaken,
+    MembersBeyondTaken,
+    WideMembersRefused,
+    HighMembersNotCompared,
     Kind24Passed,
     UnknownKindsPassed,
     MembersMayRepeat,
@@ -228,7 +252,7 @@ impl Library for WrongProgram {
         let at_fault = bytes.get(place).copied().unwrap_or(0);
         match self.0 {
             PlaceAlwaysZero => answer.place = 0,
-            TrailingBytesAsRecords if answer.number == 3 && !(1..=7).contains(&at_fault) => answer.number = 2,
+            TrailingBytesAsRecords if answer.number == 3 && !(1..=8).contains(&at_fault) => answer.number = 2,
             InputsSorted => sort_inputs(&mut answer.tree),
             UnusedGateAccepted if answer.number == 8 && at_fault != 1 => {
                 answer = ReadAnswer { number: 0, place: 0, tree: Tree::default() };
@@ -238,12 +262,15 @@ impl Library for WrongProgram {
                     answer.place += 2;
                 }
             }
-            _ => answer = wrong_read(self.0, bytes, answer),
+            _ => answer = wide_read(self.0, bytes, wrong_read(self.0, bytes, answer)),
         }
         answer
     }
 
     fn write(&self, tree: &Tree, room: &mut [u8]) -> WriteAnswer {
+        if [WideInputsThroughout, InputsCutToAByte].contains(&self.0) {
+            return wide_write(self.0, tree, room);
+        }
         let mut answer = Mirror.write(tree, room);
         match (self.0, answer.number) {
             (WritesUntilFull, 9) => {
@@ -288,7 +315,7 @@ impl Library for WrongProgram {
                 let end = 3 * answer.nodes as usize;
                 areas.nodes[end..].copy_from_slice(&nodes_before[end..]);
             }
-            (ClearsBeforeNine, 9) => areas.again().clear(),
+            (ClearsBeforeNine, 9) | (TwentyOneLeavesZero, 21) => areas.again().clear(),
             (OneNodeForAllGates, 0) => {
                 areas.gates.iter_mut().filter(|node| **node != 0).for_each(|node| *node = answer.root);
             }
@@ -301,7 +328,7 @@ impl Library for WrongProgram {
     }
 
     fn list(&self, diagram: &Lent, after: Option<Set>, room: &mut [u8]) -> ListAnswer {
-        wrong_list(self.0, diagram, after, room)
+        wide_list(self.0, diagram, after, room).unwrap_or_else(|| wrong_list(self.0, diagram, after, room))
     }
 
     fn bracket(&self, diagram: &Lent, chances: &[u32], work: [&mut [u32]; 2]) -> BracketAnswer {

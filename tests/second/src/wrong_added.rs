@@ -1,7 +1,7 @@
 //! Wrong programs, continued: the nodes that each gate adds, and the gate that 10 names.
 
 use crate::analysis::added as differences;
-use crate::judge::read;
+use crate::judge::{input_length, read};
 use crate::library::*;
 use crate::mirror::Mirror;
 use crate::robdd::Robdd;
@@ -26,9 +26,9 @@ fn unused(tree: &Tree, gate: usize) -> usize {
 /// Where the record of a gate stands.
 fn offset(tree: &Tree, gate: usize) -> u64 {
     let own = |gate: &Gate| if gate.kind == AT_LEAST { 3 } else { 2 };
-    let input = |input: &Input| if matches!(input, Input::Event(_)) { 2 } else { 3 };
     let before = tree.gates.iter().zip(tree.inputs_by_gate()).take(gate);
-    5 * tree.event_count + before.map(|(gate, inputs)| own(gate) + inputs.iter().map(input).sum::<u64>()).sum::<u64>()
+    5 * tree.event_count
+        + before.map(|(gate, inputs)| own(gate) + inputs.iter().map(input_length).sum::<u64>()).sum::<u64>()
 }
 
 /// The list of a wrong program after a done analysis; `None` where it is the right one.

@@ -4,6 +4,7 @@ use crate::changes::*;
 use crate::library::*;
 use crate::mirror::Mirror;
 use crate::sets::Set;
+use crate::tree::{FIRST_WIDE_EVENT, MOST_EVENTS};
 use crate::wrong::Wrong::{self, *};
 use std::cmp::Ordering;
 
@@ -17,22 +18,31 @@ fn cut_at(wrong: Wrong, bytes: &[u8]) -> Option<(Set, usize)> {
         let length = match (wrong, kind) {
             (_, 0x22) => return Some((set, at + 1)),
             (_, 0x21) => 2,
-            (Kind23Taken, 0x23) | (Kind24Passed, 0x24) => 3,
+            (WideMembersRefused, 0x23) => return None,
+            (_, 0x23) | (Kind24Passed, 0x24) => 3,
             (UnknownKindsPassed, 0x25..) => 1,
             _ => return None,
         };
         let body = bytes.get(at + 1..at + length)?;
         if kind == 0x21 || kind == 0x23 {
-            let event = u32::from(body[0]);
-            let passes = match last {
+            let event = body.iter().rev().fold(0, |number, &byte| 256 * number + u32::from(byte));
+            let known = match kind {
+                0x23 if event < FIRST_WIDE_EVENT => wrong == NarrowMembersTaken,
+                0x23 if event >= MOST_EVENTS as u32 => wrong == MembersBeyondTaken,
+                _ => true,
+            };
+            let rises = match last {
                 Some(last) if event == last => wrong == MembersMayRepeat,
                 Some(last) if event < last => wrong == MembersMayFall,
                 _ => true,
             };
-            if !passes {
+            if !(known && rises) {
                 return None;
             }
-            set = set.with(event);
+            if wrong != HighMembersNotCompared || event < FIRST_WIDE_EVENT {
+                // A number that no event has stands for the last event.
+                set = set.with(event.min(MOST_EVENTS as u32 - 1));
+            }
             last = Some(event);
         }
         at += length;

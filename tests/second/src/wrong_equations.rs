@@ -281,6 +281,7 @@ fn wrong_answer(wrong: Wrong, text: &[u8]) -> Import {
             let gates: Vec<usize> = (0..right.tree.gates.len()).collect();
             renumbered(right, &events, &gates)
         }
+        (ImportStopsAt256, 0) if right.tree.events() > 256 => refused(4),
         (ShownInAnyLine, 0) => Import { shown: shown_in_any_line(text, &right.shown), ..right },
         (NumbersWrap | LongNumbersAreLines | LeftTwiceTaken | OneOfOneIsOr | ImportsFiveOfAllInputs, _) => {
             match seen(wrong, text) {

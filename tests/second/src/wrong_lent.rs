@@ -4,14 +4,16 @@ use crate::lent::{Lent, Sort};
 use crate::library::*;
 use crate::listing::Walk;
 use crate::mirror::Mirror;
-use crate::sets::Set;
+use crate::sets::{Set, LONGEST_CUT};
 use crate::tree::D;
 use crate::wrong::Wrong::{self, *};
+use crate::wrong_wide::refuses_count;
 
 /// What the wrong program takes the diagram for; `None` if it refuses it.
 fn seen(wrong: Wrong, diagram: &Lent) -> Option<Lent> {
     let nodes = diagram.table.chunks_exact(3).take(diagram.node_count.min(1 << 20) as usize);
     match wrong {
+        _ if refuses_count(wrong, diagram) => None,
         JudgesReachedNodesOnly if !diagram.is_diagram() => Some(without_unreached(diagram)),
         RefusesEqualNodes => {
             let mut met = Vec::new();
@@ -80,7 +82,7 @@ pub fn wrong_list(wrong: Wrong, diagram: &Lent, after: Option<Set>, room: &mut [
     match wrong {
         FinishedAfterFirstRoom => answer.finished = true,
         FinishedIfRoomIsLeft => answer.finished = (answer.used as usize) < room_length,
-        FourteenBelow513 if room_length < 513 => return refused(14),
+        FourteenBelowTheLongest if room_length < LONGEST_CUT => return refused(14),
         WritesNothing => answer = ListAnswer { written: 0, used: 0, finished: true, ..answer },
         LastSetForgotten if answer.written == 0 => answer.last = Set::EMPTY,
         BySize => return other_list(diagram, after, room, true),

@@ -6,6 +6,7 @@ use crate::library::*;
 use crate::mirror::{lay_out_counts, Mirror};
 use crate::sizes::*;
 use crate::wrong::Wrong::{self, *};
+use crate::wrong_wide::wide_counts;
 
 /// The counts; what is too large stands as 2^64 − 1.
 fn counts_of(diagram: &Lent) -> Vec<u64> {
@@ -21,6 +22,7 @@ fn some_node_overflows(diagram: &Lent) -> bool {
 
 pub fn wrong_sizes(wrong: Wrong, diagram: &Lent, mut counting: CountAreas) -> SizesAnswer {
     let before = counting.work.each_ref().map(|area| area.to_vec());
+    let counts_before = counting.counts.to_vec();
     let short = !Mirror.counting_suffices(diagram.table.len(), &counting);
     let mut answer = Mirror.sizes(diagram, counting.again());
     let counts = &mut *counting.counts;
@@ -38,12 +40,13 @@ pub fn wrong_sizes(wrong: Wrong, diagram: &Lent, mut counting: CountAreas) -> Si
         }
         (EmptySetNotCounted, 0) => counts[0] = 0,
         (LastSizeLeftOut, 0) => counts[diagram.event_count as usize] = 0,
+        (CountsStopAt256, 0) => wide_counts(wrong, &counts_before, counts),
         (ZerosBehindTheCounts, 0) => counts[SIZES..].fill(0),
         (CountingAreaLeftDirty, 0) => *counting.work[0].last_mut().expect("an area has numbers") = 1,
         (CountingAreasStayOnNineteen, 19) => {
             counting.work.iter_mut().zip(before).for_each(|(area, before)| area.copy_from_slice(&before));
         }
-        (CountsNeedNotReach256, 9) if counts.len() < SIZES && counts.len() as u64 > diagram.event_count => {
+        (CountsNeedNotReach1024, 9) if counts.len() < SIZES && counts.len() as u64 > diagram.event_count => {
             let told = counts_of(diagram)[..counts.len()].to_vec();
             lay_out_counts(Some(&told), counting);
             answer.number = 0;
@@ -87,13 +90,13 @@ fn other_totals(wrong: Wrong, bytes: &[u8], lengths: &[u64], lent: Lengths, suff
         },
         (TreesOwnNineteen, _) => (0..trees.len()).map(alone).find(Result::is_err).filter(|_| suffice).unwrap_or(right),
         (NineteenAtOnce, _) => (1..=trees.len()).filter_map(first).find(Result::is_err).unwrap_or(right),
-        (PlaceInTheFolder, 1..=8) => right.map_err(|refused| {
+        (PlaceInTheFolder, 1..=8 | 21) => right.map_err(|refused| {
             let before: u64 = lengths[..refused.tree as usize].iter().sum();
             RefusedFolder { place: refused.place + before, ..refused }
         }),
         (FolderTenWithoutAGate, 10) => right.map_err(|refused| RefusedFolder { place: 0, ..refused }),
         (TreeNotTold, _) => right.map_err(|refused| RefusedFolder { tree: 0, ..refused }),
-        (LastRefusedTree, 1..=11) => {
+        (LastRefusedTree, 1..=11 | 21) => {
             (0..trees.len()).rev().map(alone).find(Result::is_err).filter(|_| suffice).unwrap_or(right)
         }
         (TotalsOfTheLast, 0) if !trees.is_empty() => alone(trees.len() - 1),
@@ -109,6 +112,7 @@ pub fn wrong_folder(wrong: Wrong, bytes: &[u8], lengths: &[u64], areas: Areas, c
     let stays = refused.is_some_and(|refused| refused.leaves_memory());
     let memory_stays = match wrong {
         MemoryStaysAfterALaterTree => (1..=9).contains(&number),
+        TwentyOneLeavesZero => stays && number != 21,
         FirstTreeClears => stays && (number == 9 || lengths.is_empty()),
         EmptyFolderChangesNothing => stays || lengths.is_empty(),
         _ => stays,

@@ -1,6 +1,6 @@
 //! Wrong programs, continued: inputs that stand twice in an at-least gate, and when, where and of what number 5 is judged.
 
-use crate::judge::{decode, read, Record, Refusal};
+use crate::judge::{input_length, read, Record, Refusal, READER};
 use crate::library::*;
 use crate::robdd::{Node, Robdd, FALSE, TRUE};
 use crate::tree::*;
@@ -28,7 +28,7 @@ fn at_least_gates(bytes: &[u8]) -> Vec<AtLeast> {
     let mut place = 0;
     let mut missing = 0;
     while place < bytes.len() {
-        let Ok((record, length)) = decode(bytes, place) else { break };
+        let Ok((record, length)) = READER.decode(bytes, place) else { break };
         let input = match record {
             Record::Gate { kind, k, n } => {
                 missing = if kind == AT_LEAST { n } else { 0 };
@@ -37,7 +37,7 @@ fn at_least_gates(bytes: &[u8]) -> Vec<AtLeast> {
                 }
                 None
             }
-            Record::EventInput(event) => Some(Input::Event(event as u32)),
+            Record::EventInput(event) | Record::WideInput(event) => Some(Input::Event(event as u32)),
             Record::GateInput(gate) => Some(Input::Gate(gate as u32)),
             _ => None,
         };
@@ -86,8 +86,7 @@ fn doubles_pass(bytes: &[u8]) -> Result<Tree, Refusal> {
         if let Some(&(_, k)) = changed.iter().find(|changed| changed.0 == place) {
             gate.k = k;
         }
-        let input = |input: &Input| if matches!(input, Input::Event(_)) { 2 } else { 3 };
-        place += if gate.kind == AT_LEAST { 3 } else { 2 } + inputs.iter().map(input).sum::<u64>();
+        place += if gate.kind == AT_LEAST { 3 } else { 2 } + inputs.iter().map(input_length).sum::<u64>();
     }
     Ok(tree)
 }
@@ -102,7 +101,7 @@ fn joins_without_twins(tree: &Tree) -> Tree {
     other
 }
 
-fn answered(reading: Result<Tree, Refusal>) -> ReadAnswer {
+pub fn answered(reading: Result<Tree, Refusal>) -> ReadAnswer {
     match reading {
         Ok(tree) => ReadAnswer { number: 0, place: 0, tree },
         Err(Refusal { number, place }) => ReadAnswer { number, place, tree: Tree::default() },

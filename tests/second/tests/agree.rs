@@ -11,7 +11,7 @@ use second::lent::{Lent, Sort};
 use second::listing::{list, Walk};
 use second::random::Random;
 use second::renumbering::renumbering;
-use second::sets::Set;
+use second::sets::{Set, LONGEST_CUT, WORDS};
 use second::tree::*;
 
 fn analysed(tree: &Tree) -> Analysis {
@@ -125,7 +125,7 @@ fn lent_cut_diagrams() {
             let start = start(random, diagram.event_count as usize, &sets);
             let room = room(random, whole);
             let answer = list(&diagram, start, room);
-            let beyond = start.is_some_and(|set| set.holds_any(diagram.event_count as u32..256));
+            let beyond = start.is_some_and(|set| set.holds_any(diagram.event_count as u32..MOST_EVENTS as u32));
             if beyond {
                 assert_eq!(answer.number, 13);
                 continue;
@@ -156,7 +156,7 @@ fn rooms_join() {
         let mut joined = Vec::new();
         let mut from = None;
         loop {
-            let answer = list(&diagram, from, random.between(513, 600));
+            let answer = list(&diagram, from, random.between(LONGEST_CUT, LONGEST_CUT + 90));
             assert_eq!(answer.number, 0);
             joined.extend(answer.bytes);
             from = Some(answer.last);
@@ -177,12 +177,15 @@ fn lent_function_diagrams() {
         let events = diagram.event_count as usize;
         let mut chances = chances(random, events);
         let top = bracket(&diagram, &chances, true);
-        let exact = exact_chance(&diagram, &chances);
-        let l = events_reached(&diagram);
-        assert!(keeps_promise(top.low, top.high, &exact, l, events as u32), "seed {seed}");
-        if events <= 8 {
-            let f: Vec<bool> = (0..1usize << events).map(|set| value(&diagram, as_set(set))).collect();
-            assert_eq!(exact, brute::exact_chance(&f, &chances), "seed {seed}");
+        // Exact numbers of 1,024 events are long: some of these suffice.
+        if events <= 300 || seed % 20 == 0 {
+            let exact = exact_chance(&diagram, &chances);
+            let l = events_reached(&diagram);
+            assert!(keeps_promise(top.low, top.high, &exact, l, events as u32), "seed {seed}");
+            if events <= 8 {
+                let f: Vec<bool> = (0..1usize << events).map(|set| value(&diagram, as_set(set))).collect();
+                assert_eq!(exact, brute::exact_chance(&f, &chances), "seed {seed}");
+            }
         }
         assert_eq!(bracket(&diagram, &chances[1..], true).number, 9);
         assert_eq!(bracket(&diagram, &chances, false).number, 9);
@@ -207,7 +210,7 @@ fn damaged_diagrams() {
                 refused += 1;
                 match sort {
                     Sort::Function => assert_eq!(bracket(&diagram, &[], false).number, 12),
-                    Sort::Cuts => assert_eq!(list(&diagram, Some(Set([u64::MAX; 4])), 0).number, 12),
+                    Sort::Cuts => assert_eq!(list(&diagram, Some(Set([u64::MAX; WORDS])), 0).number, 12),
                 }
             }
         }

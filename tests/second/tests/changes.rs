@@ -29,7 +29,10 @@ fn counted(yesterday: &[u8], today: &[u8]) -> (usize, usize, usize) {
 
 #[test]
 fn good_listings() {
-    for good in [NONE, GOOD, &[0x22], &[0x21, 255, 0x22], &[0x21, 0x21, 0x21, 0x22, 0x22, 0x21, 0x22, 0x22]] {
+    let across =
+        [&[0x21, 255, 0x23, 0, 1, 0x23, 1, 1, 0x22][..], &[0x23, 0x22, 1, 0x22], &[0x23, 255, 3, 0x22]].concat();
+    let alike = [0x21, 0x21, 0x21, 0x22, 0x22, 0x21, 0x22, 0x22];
+    for good in [NONE, GOOD, &[0x22], &[0x21, 255, 0x22], &alike, &across] {
         assert!(cuts_of(good).is_some(), "{good:02X?}");
         assert_eq!(shown(good, good), (0, Side::Neither, vec![]));
     }
@@ -37,7 +40,7 @@ fn good_listings() {
 
 #[test]
 fn bad_listings() {
-    let bads: [&[u8]; 18] = [
+    let bads: &[&[u8]] = &[
         // It ends inside a record, or before a cut's end.
         &[0x21],
         &[0x21, 0],
@@ -57,12 +60,23 @@ fn bad_listings() {
         // Unknown kinds.
         &[0],
         &[0x20],
-        &[0x23, 0, 1, 0x22],
         &[0x24, 0, 0, 0x22],
+        &[0x24, 0, 1, 0x22],
         &[0x21, 0, 0x22, 0],
-        &[0x21, 0, 0x23, 0, 1, 0x22],
+        // Kind 23 with a number below 256, or above 1,023; without its bytes.
+        &[0x23, 0, 0, 0x22],
+        &[0x23, 255, 0, 0x22],
+        &[0x21, 0, 0x23, 1, 0, 0x22],
+        &[0x23, 0, 4, 0x22],
+        &[0x23, 255, 255, 0x22],
+        &[0x23, 0, 1],
+        &[0x23, 0],
+        &[0x23],
+        // Members and cuts out of order by their high bytes.
+        &[0x23, 1, 1, 0x23, 0, 1, 0x22],
+        &[0x23, 0, 2, 0x22, 0x23, 1, 1, 0x22],
     ];
-    for bad in bads {
+    for &bad in bads {
         assert!(cuts_of(bad).is_none(), "{bad:02X?}");
         for good in [NONE, GOOD, &[0x21, 0, 0x22]] {
             for (yesterday, today, side) in
@@ -171,15 +185,17 @@ fn agrees(yesterday: &[Set], today: &[Set]) {
     assert_eq!(old == new, only.is_empty());
 }
 
-/// All families of sets of three events, against each other; and seeded ones.
+/// All families of sets of three events, against each other, the first three and those around 256; and seeded ones.
 #[test]
 fn two_ways_agree() {
-    let mut sets: Vec<Set> = (0..8).map(|set| Set([set, 0, 0, 0])).collect();
-    sets.sort_by(Set::order);
-    let family = |choice: u32| -> Vec<Set> { (0..8).filter(|i| choice >> i & 1 == 1).map(|i| sets[i]).collect() };
-    for yesterday in 0..256 {
-        for today in 0..256 {
-            agrees(&family(yesterday), &family(today));
+    for first in [0, 254] {
+        let mut sets: Vec<Set> = (0..8).map(|set| Set::from_number(first, set)).collect();
+        sets.sort_by(Set::order);
+        let family = |choice: u32| -> Vec<Set> { (0..8).filter(|i| choice >> i & 1 == 1).map(|i| sets[i]).collect() };
+        for yesterday in 0..256 {
+            for today in 0..256 {
+                agrees(&family(yesterday), &family(today));
+            }
         }
     }
     let random = &mut Random::new(5);

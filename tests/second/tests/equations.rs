@@ -177,16 +177,16 @@ fn wide(gates: usize, inputs: usize, chances: &[(usize, u64)]) -> String {
 #[test]
 fn limits_in_the_order_of_records() {
     let above = 1_000_000_001;
-    assert_eq!(answer(&wide(4, 64, &[])).0, 0);
-    assert_eq!(answer(&wide(5, 64, &[])).0, 4);
-    // 320 events: a chance above D at event 3, at event 300, at the 256th and the 257th.
-    assert_eq!(answer(&wide(5, 64, &[(3, above)])).0, 7);
-    assert_eq!(answer(&wide(5, 64, &[(300, above)])).0, 4);
-    assert_eq!(answer(&wide(5, 64, &[(255, above)])).0, 7);
-    assert_eq!(answer(&wide(5, 64, &[(256, above)])).0, 4);
-    assert_eq!(answer(&wide(5, 64, &[(300, above), (3, above)])).0, 7);
-    // 257 events exactly.
-    let one_more = wide(4, 64, &[]).replacen("root = ", "root = more or ", 1);
+    assert_eq!(answer(&wide(16, 64, &[])).0, 0);
+    assert_eq!(answer(&wide(17, 64, &[])).0, 4);
+    // 1,088 events: a chance above D at event 3, at event 1,050, at the 1,024th and the 1,025th.
+    assert_eq!(answer(&wide(17, 64, &[(3, above)])).0, 7);
+    assert_eq!(answer(&wide(17, 64, &[(1_050, above)])).0, 4);
+    assert_eq!(answer(&wide(17, 64, &[(1_023, above)])).0, 7);
+    assert_eq!(answer(&wide(17, 64, &[(1_024, above)])).0, 4);
+    assert_eq!(answer(&wide(17, 64, &[(1_050, above), (3, above)])).0, 7);
+    // 1,025 events exactly.
+    let one_more = wide(16, 64, &[]).replacen("root = ", "root = more or ", 1);
     assert_eq!(answer(&one_more).0, 4);
     assert_eq!(answer(&format!("{one_more}p e3 {above}\n")).0, 7);
     // 64 inputs to a gate, 65; all events before any gate.
@@ -284,12 +284,12 @@ fn exported() {
     assert_eq!(export_into(&tree, &mut room), Err(Refusal { number: 7, place: 5 }));
 }
 
-/// The longest export: every chance has ten digits, short names stand once, 462 gates are an at-least of two, the others an and of as many
-/// as the 4,096 inputs allow. No gate of n inputs has a longer connective: 5 bytes for each further one, or 14 and 2 for each.
+/// The longest export: every chance has ten digits, names stand once where a longer one may stand again, 462 gates are an at-least of two, the others an
+/// and of as many as the 4,096 inputs allow. No gate of n inputs has a longer connective: 5 bytes for each further one, or 14 and 2 for each.
 #[test]
 fn longest_text() {
-    let mut tree = Tree::of_chances(&[D; 256]);
-    let mut unused: VecDeque<Input> = (0..256).map(Event).collect();
+    let mut tree = Tree::of_chances(&[D; 1_024]);
+    let mut unused: VecDeque<Input> = (0..1_024).map(Event).collect();
     for gate in 0..512 {
         let (kind, k, n, first_uses) = match gate {
             0..462 => (AT_LEAST, 2, 2, 1),
@@ -298,13 +298,13 @@ fn longest_text() {
         };
         let mut inputs: Vec<Input> = (0..first_uses).filter_map(|_| unused.pop_front()).collect();
         // Two that are distinct.
-        let other = if inputs == [Event(255)] { Event(254) } else { Event(255) };
+        let other = if inputs == [Event(1_023)] { Event(1_022) } else { Event(1_023) };
         inputs.resize(n, other);
         unused.push_back(Input::Gate(tree.add_gate(kind, k, &inputs)));
     }
     assert_eq!(tree.inputs.len(), MOST_INPUTS);
     let text = export(&tree).unwrap();
-    assert_eq!(text.len(), 47_650);
+    assert_eq!(text.len(), 64_083);
     assert_eq!(typed(&text).number, 0);
 }
 

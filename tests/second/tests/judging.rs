@@ -1,8 +1,9 @@
 //! Reading and writing: damage with a known number and place, trees in memory, and the limits.
 
-use second::damage::damaged;
-use second::generator::{self, large_shape, middle_shape, small_shape, tree};
+use second::damage::{damaged, NUMBERS};
+use second::generator::{self, large_shape, middle_shape, small_shape, tree, wide_tree, Shape};
 use second::judge::{read, refuse, write, write_into, Refusal};
+use second::program::MOST_READ;
 use second::random::Random;
 use second::tree::*;
 use second::unlawful::{raw_bytes, tree_in_memory};
@@ -10,10 +11,10 @@ use std::collections::BTreeSet;
 
 #[test]
 fn damage_is_named_and_placed() {
-    for number in 1..=8 {
+    for number in NUMBERS {
         let mut places = BTreeSet::new();
         for seed in 0..1_500 {
-            let damaged = damaged(&mut Random::new(seed * 8 + number as u64), number);
+            let damaged = damaged(&mut Random::new(seed * 22 + number as u64), number);
             assert_eq!(damaged.expected.number, number);
             assert_eq!(read(&damaged.bytes).err(), Some(damaged.expected), "number {number}, seed {seed}");
             places.insert(damaged.expected.place);
@@ -22,16 +23,21 @@ fn damage_is_named_and_placed() {
     }
 }
 
+fn generated(random: &mut Random, shape: fn(&mut Random) -> Shape) -> Tree {
+    let shape = shape(random);
+    tree(random, shape)
+}
+
 #[test]
 fn generated_trees_are_accepted() {
     for seed in 0..3_000 {
         let random = &mut Random::new(seed);
-        let shape = match seed % 3 {
-            0 => small_shape(random),
-            1 => middle_shape(random),
-            _ => large_shape(random),
+        let tree = match seed % 4 {
+            0 => generated(random, small_shape),
+            1 => generated(random, middle_shape),
+            2 => generated(random, large_shape),
+            _ => wide_tree(random),
         };
-        let tree = tree(random, shape);
         let bytes = write(&tree).unwrap_or_else(|refusal| panic!("seed {seed}: {refusal:?}"));
         assert!(bytes.len() <= LONGEST_TREE);
         assert_eq!(read(&bytes).as_ref(), Ok(&tree));
@@ -41,7 +47,7 @@ fn generated_trees_are_accepted() {
 
 #[test]
 fn random_bytes_are_answered() {
-    let mut numbers = [0; 9];
+    let mut numbers = [0; 22];
     for seed in 0..50_000 {
         let bytes = generator::bytes(&mut Random::new(seed));
         match read(&bytes) {
@@ -82,10 +88,10 @@ fn writing_refuses_as_reading_does() {
 
 #[test]
 fn counts_beyond_the_arrays() {
-    let mut tree = Tree::of_chances(&[7; 256]);
+    let mut tree = Tree::of_chances(&[7; 1_024]);
     or(&mut tree, &[Input::Event(0)]);
     tree.event_count = u64::MAX;
-    assert_eq!(write(&tree), refuse(4, 1_280));
+    assert_eq!(write(&tree), refuse(4, 5_120));
     tree.chances[200] = D + 1;
     assert_eq!(write(&tree), refuse(7, 1_000));
     let mut tree = Tree::of_chances(&[7]);
@@ -117,16 +123,16 @@ fn rooms_for_writing() {
     assert_eq!(write_into(&tree, &mut []), refuse(4, 5));
 }
 
-/// The first 16,384 bytes decide any input.
+/// The first 20,480 bytes decide any input.
 #[test]
 fn first_bytes_decide() {
     for seed in 0..300 {
         let random = &mut Random::new(seed);
         let mut bytes = write(&tree(random, generator::longest_shape())).unwrap();
         bytes.pop();
-        while bytes.len() < 20_000 {
-            bytes.extend([vec![6, 0, 0], vec![5, 0], vec![2, 1]][random.below(3)].iter());
+        while bytes.len() < 24_000 {
+            bytes.extend([vec![6, 0, 0], vec![5, 0], vec![8, 0, 1], vec![2, 1]][random.below(4)].iter());
         }
-        assert_eq!(read(&bytes).err(), read(&bytes[..16_384]).err());
+        assert_eq!(read(&bytes).err(), read(&bytes[..MOST_READ]).err());
     }
 }

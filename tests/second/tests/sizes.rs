@@ -1,7 +1,7 @@
 //! Request 2: counts by size against listings, figures from elsewhere, and the order of a folder's refusals.
 
 use second::analysis::{analyse, Analysis, Lengths};
-use second::damage::damaged;
+use second::damage::{damaged, NUMBERS};
 use second::european::european_1;
 use second::families;
 use second::folders::Folder;
@@ -18,7 +18,7 @@ fn analysed(bytes: &[u8]) -> Analysis {
     analyse(bytes, Lengths::AMPLE).unwrap_or_else(|refusal| panic!("{refusal:?}"))
 }
 
-/// Counts that end in zeros up to size 256.
+/// Counts that end in zeros up to size 1,024.
 fn whole(told: &[u64]) -> Vec<u64> {
     [told, &vec![0; SIZES - told.len()]].concat()
 }
@@ -84,10 +84,11 @@ fn figures() {
     assert_eq!(sizes(&families::all_but_one(64), true), Ok(whole(&[vec![0; 64], vec![u64::MAX]].concat())));
     assert_eq!(sizes(&families::all_but_one(65), true), too_many);
     assert_eq!(sizes(&families::every_set(5), true), Ok(whole(&[1, 5, 10, 10, 5, 1])));
-    // 67 choose 33 fits, 68 choose 34 does not; of 256 events the numbers leave 128 bits, too.
+    // 67 choose 33 fits, 68 choose 34 does not; of 1,024 events the numbers leave 128 bits, too.
     assert_eq!(sizes(&families::every_set(67), true).unwrap()[33], 14_226_520_737_620_288_370);
     assert_eq!(sizes(&families::every_set(68), true), too_many);
-    assert_eq!(sizes(&families::every_set(256), true), too_many);
+    assert_eq!(sizes(&families::every_set(1_024), true), too_many);
+    assert_eq!(sizes(&families::one_set(1_024), true), Ok([vec![0; 1_024], vec![1]].concat()));
     for (root, counts) in [(0, vec![]), (1, vec![1])] {
         assert_eq!(sizes(&Lent { root, ..families::every_set(5) }, true), Ok(whole(&counts)));
     }
@@ -126,7 +127,7 @@ fn the_order_of_a_folder() {
     assert_eq!(of_trees(&[], ample, false), refused(9, 0, 0));
     assert_eq!(of_trees(&[&fits, &fits], ample, true), refused(19, 0, 0));
     assert_eq!(of_trees(&[&small, &huge], ample, true), refused(19, 0, 0));
-    for number in 1..=8 {
+    for number in NUMBERS {
         let bad = damaged(random, number);
         let place = bad.expected.place;
         // The first refused tree, before 19 and behind the folder's own 9.

@@ -3,6 +3,7 @@
 use second::compare::compare_input;
 use second::compare_added::compare_added;
 use second::compare_large::compare_twins;
+use second::compare_wide::compare_wide;
 use second::library::Library;
 use second::mirror::Mirror;
 use second::random::Random;
@@ -26,15 +27,15 @@ fn the_mirror_passes() {
     assert_eq!(tally.failed, 0, "{}", tally.first_difference.unwrap_or_default());
     assert!(tally.passed > 30_000, "{}", tally.line());
     let numbers = |call| -> Vec<u32> { tally.due.keys().filter(|due| due.0 == call).map(|due| due.1).collect() };
-    assert_eq!(numbers("read"), [0, 1, 2, 3, 4, 5, 6, 7, 8]);
+    assert_eq!(numbers("read"), [0, 1, 2, 3, 4, 5, 6, 7, 8, 21]);
     assert_eq!(numbers("write"), [0, 2, 4, 5, 6, 7, 8, 9]);
-    assert_eq!(numbers("analyse"), [0, 1, 2, 3, 4, 5, 6, 7, 8, 9, 10, 11]);
+    assert_eq!(numbers("analyse"), [0, 1, 2, 3, 4, 5, 6, 7, 8, 9, 10, 11, 21]);
     assert_eq!(numbers("list"), [0, 12, 13, 14]);
     assert_eq!(numbers("bracket"), [0, 7, 9, 12]);
     assert_eq!(numbers("import"), [0, 4, 5, 7, 9, 15, 16, 17, 18]);
     assert_eq!(numbers("export"), [0, 2, 4, 5, 6, 7, 8, 9]);
     assert_eq!(numbers("sizes"), [0, 9, 12, 19]);
-    assert_eq!(numbers("folder"), [0, 1, 2, 3, 4, 5, 6, 7, 8, 9, 10, 11, 19]);
+    assert_eq!(numbers("folder"), [0, 1, 2, 3, 4, 5, 6, 7, 8, 9, 10, 11, 19, 21]);
     for call in ["side", "first difference", "compare"] {
         assert_eq!(numbers(call), [0, 20]);
     }
@@ -97,6 +98,32 @@ fn added_nodes_are_told_apart() {
             Wrong::PlaceOfTheLastThatFits,
             Wrong::TenSaysTheRecord,
             Wrong::ElevenSaysAGate,
+        ],
+    );
+}
+
+/// Every wrong program about wide events, but those that compare listings, import, count or bracket.
+#[test]
+fn wide_events_are_told_apart() {
+    told_apart(
+        compare_wide,
+        &[
+            Wrong::NarrowPasses,
+            Wrong::TwentyOneAfterSix,
+            Wrong::TwentyOneBeforeThree,
+            Wrong::WideInputsHighByteFirst,
+            Wrong::FourAtTheOldLimit,
+            Wrong::GatesFrom256,
+            Wrong::WideInputsThroughout,
+            Wrong::InputsCutToAByte,
+            Wrong::WideMembersThroughout,
+            Wrong::MembersCutToAByte,
+            Wrong::MembersHighByteFirst,
+            Wrong::HighWordsNotCompared,
+            Wrong::LastWithoutHighWords,
+            Wrong::LongCutsOverrun,
+            Wrong::ThreeBytesForEach,
+            Wrong::TwelveAbove256,
         ],
     );
 }

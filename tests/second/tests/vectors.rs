@@ -28,7 +28,9 @@ fn bytes_of(hex: &str) -> Vec<u8> {
 fn reading() {
     let refused = [
         ("", 1, 0),
-        ("08", 2, 0),
+        ("09", 2, 0),
+        ("08", 1, 0),
+        ("080000", 3, 0),
         ("05", 1, 0),
         ("0500", 3, 0),
         ("07", 4, 0),
@@ -56,13 +58,13 @@ fn reading() {
     assert!(read(&bytes_of("0100CA9A3B 0201 0500 07")).is_ok());
 }
 
-/// 15,103 bytes of records without a fault: event inputs only where nothing else is allowed.
+/// 18,944 bytes of records without a fault: no input has fewer than three.
 #[test]
 fn longest_run_before_the_end() {
     let run = longest_run();
-    assert_eq!(run.len(), 15_103);
+    assert_eq!(run.len(), 18_944);
     for (tail, number, place) in
-        [("07", 8, 5), ("07 07", 3, 15_104), ("05 00", 3, 15_103), ("02 01", 4, 15_103), ("", 1, 15_103)]
+        [("07", 8, 0), ("07 07", 3, 18_945), ("05 00", 3, 18_944), ("02 01", 4, 18_944), ("", 1, 18_944)]
     {
         let bytes = [run.clone(), bytes_of(tail)].concat();
         assert_eq!(read(&bytes), Err(Refusal { number, place }), "{tail}");
@@ -73,7 +75,7 @@ fn longest_run_before_the_end() {
 fn longest_tree() {
     for seed in 0..20 {
         let tree = tree(&mut Random::new(seed), longest_shape());
-        assert_eq!((tree.gates.len(), tree.events(), tree.inputs.len()), (512, 256, 4_096));
+        assert_eq!((tree.gates.len(), tree.events(), tree.inputs.len()), (512, 1_024, 4_096));
         assert_eq!(write(&tree).unwrap().len(), LONGEST_TREE);
     }
 }

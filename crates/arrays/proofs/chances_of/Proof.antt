@@ -4,6 +4,7 @@ use native.Mathlib.Omega.{arith}
 use mathlib.Core.Path.{refl}
 use Prim.Native.Nat.{_-_}
 use lib.ListN.{getD}
+use Rattle.paper.specs.Limits.{limits}
 use Rattle.records.specs.Memory.{noEvent}
 use Rattle.arrays.specs.Chances.{chancesOf}
 use Rattle.arrays.proofs.Filling.{Filled, filled-none, filled-more, filled-all}
@@ -11,10 +12,10 @@ use Rattle.arrays.proofs.chances_of.Statement.{statement}
 use Rattle.arrays.proofs.chances_of.Tie as tie
 
 abbrev Inv-loop : tie.InvT-loop
-Inv-loop events chances₀ i₀ chances i = Filled (λ e. getD events e noEvent .chance) 0 256 chances i
+Inv-loop events chances₀ i₀ chances i = Filled (λ e. getD events e noEvent .chance) 0 (limits .events) chances i
 
 abbrev μ-loop : tie.MeasureT-loop
-μ-loop events chances₀ i₀ chances i = 256 - i
+μ-loop events chances₀ i₀ chances i = limits .events - i
 
 loop-holds : tie.Need-loop-holds Inv-loop μ-loop
 loop-holds c = filled-none _ 0 refl

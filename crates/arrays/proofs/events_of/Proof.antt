@@ -4,6 +4,7 @@ use native.Mathlib.Omega.{arith}
 use mathlib.Core.Path.{refl}
 use Prim.Native.Nat.{_-_}
 use lib.ListN.{getD}
+use Rattle.paper.specs.Limits.{limits}
 use Rattle.records.specs.Memory.{noEvent}
 use Rattle.arrays.specs.Chances.{eventsOf}
 use Rattle.arrays.proofs.Filling.{Filled, filled-none, filled-more, filled-all}
@@ -11,10 +12,10 @@ use Rattle.arrays.proofs.events_of.Statement.{statement}
 use Rattle.arrays.proofs.events_of.Tie as tie
 
 abbrev Inv-loop : tie.InvT-loop
-Inv-loop chances events₀ i₀ events i = Filled (λ e. record { chance = getD chances e 0 }) noEvent 256 events i
+Inv-loop chances events₀ i₀ events i = Filled (λ e. record { chance = getD chances e 0 }) noEvent (limits .events) events i
 
 abbrev μ-loop : tie.MeasureT-loop
-μ-loop chances events₀ i₀ events i = 256 - i
+μ-loop chances events₀ i₀ events i = limits .events - i
 
 loop-holds : tie.Need-loop-holds Inv-loop μ-loop
 loop-holds c = filled-none _ noEvent refl

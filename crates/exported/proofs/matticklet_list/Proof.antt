@@ -7,40 +7,28 @@ use Rattle.exported.proofs.matticklet_list.Tie as tie
 list-requires : tie.Need-list-requires
 list-requires c κs = search needs
 
-cast-t14 : tie.Need-cast-t14
-cast-t14 c = search needs
+cast-t15 : tie.Need-cast-t15
+cast-t15 c = search needs
 
-cast-t18 : tie.Need-cast-t18
-cast-t18 c = search needs
+cast-t19 : tie.Need-cast-t19
+cast-t19 c = search needs
 
-array-read-t21 : tie.Need-array-read-t21
-array-read-t21 c = search needs
-
-array-read-t24 : tie.Need-array-read-t24
-array-read-t24 c = search needs
-
-array-read-t27 : tie.Need-array-read-t27
-array-read-t27 c = search needs
-
-array-read-t30 : tie.Need-array-read-t30
-array-read-t30 c = search needs
+with-set-requires : tie.Need-with-set-requires
+with-set-requires c κs = search needs
 
 same-length : tie.Need-same-length
 same-length c = search needs
 
 returns : tie.Need-returns
-returns c = (c .before .before .before .before .before .before .list .result, (c .before .before .before .before .before .before .list .ensures, listed (c .before .before .before .before .before .before .list .result .finished)))
+returns c = (c .before .before .before .before .before .before .list .result, (c .before .before .before .before .before .before .list .ensures, listed (c .before .before .before .before .before .before .list .result .finished) (c .with-set .ensures)))
 
 pub matticklet-list-spec : {M : Type 1} → statement M
 matticklet-list-spec =
     tie.close
     (tie.spec
     list-requires
-    cast-t14
-    cast-t18
-    array-read-t21
-    array-read-t24
-    array-read-t27
-    array-read-t30
+    cast-t15
+    cast-t19
+    with-set-requires
     same-length
     returns)

@@ -12,10 +12,10 @@ sub-read-back : tie.Need-sub-read-back
 sub-read-back c = search needs
 
 read-back-requires : tie.Need-read-back-requires
-read-back-requires c κs = search needs
+read-back-requires c κs = c .before .before .pre .1 (omega arith)
 
 returns-2 : tie.Need-returns-2
-returns-2 c = (λ h. absurd (omega arith), λ h. c .read-back .ensures .1)
+returns-2 c = (λ h. absurd (omega arith), λ h. c .read-back .ensures)
 
 pub last-set-spec : {M : Type 1} → statement M
 last-set-spec = tie.close (tie.spec returns sub-read-back read-back-requires returns-2)

@@ -26,9 +26,6 @@ shr-write-word c = omega arith
 shl-write-word : tie.Need-shl-write-word Inv-loop μ-loop
 shl-write-word c = omega arith
 
-mul-write-word-2 : tie.Need-mul-write-word-2 Inv-loop μ-loop
-mul-write-word-2 c = omega (arith, low-word (c .before .before .before .before .pre .1), c .before .before .before .before .pre .0)
-
 write-word-requires : tie.Need-write-word-requires Inv-loop μ-loop
 write-word-requires c κs = let b = c .before .before .before .before .before .before .pre .1 in let f = c .before .before .shared-slice-known2 .given (c .before .before .before .before .before .before .args .low / 64) .fits in (omega (arith, low-word b, c .before .before .before .before .before .before .pre .0), first-room b (c .before .before .before .before .before .before .pre .2) f, first-room b (c .before .before .before .before .before .before .pre .3) f)
 
@@ -38,14 +35,11 @@ loop-holds c = let b = c .before .before .before .before .before .before .before
 add-k : tie.Need-add-k Inv-loop μ-loop
 add-k c = omega (arith, high-word (c .before .before .before .before .before .before .before .before .before .before .before .before .before .pre .1), c .before .before .before .before .before .before .before .before .before .before .before .before .before .pre .0)
 
-mul-write-word-3 : tie.Need-mul-write-word-3 Inv-loop μ-loop
-mul-write-word-3 c = omega (arith, high-word (c .before .before .before .before .before .before .before .before .before .before .before .before .before .pre .1), c .before .before .before .before .before .before .before .before .before .before .before .before .before .pre .0)
+mul-write-word-2 : tie.Need-mul-write-word-2 Inv-loop μ-loop
+mul-write-word-2 c = omega (arith, high-word (c .before .before .before .before .before .before .before .before .before .before .before .before .before .pre .1), c .before .before .before .before .before .before .before .before .before .before .before .before .before .pre .0)
 
 shared-slice-read-write-word-2 : tie.Need-shared-slice-read-write-word-2 Inv-loop μ-loop
 shared-slice-read-write-word-2 c = omega (arith, high-word (c .before .before .before .before .before .before .before .before .before .before .before .before .before .before .pre .1))
-
-mul-write-word-4 : tie.Need-mul-write-word-4 Inv-loop μ-loop
-mul-write-word-4 c = omega (arith, high-word (c .before .before .before .before .before .before .before .before .before .before .before .before .before .before .pre .1), c .before .before .before .before .before .before .before .before .before .before .before .before .before .before .pre .0)
 
 write-word-requires-2 : tie.Need-write-word-requires-2 Inv-loop μ-loop
 write-word-requires-2 c κs = let b = c .before .before .before .before .before .before .before .before .before .before .before .before .before .before .before .before .pre .1 in (omega (arith, high-word b, c .before .before .before .before .before .before .before .before .before .before .before .before .before .before .before .before .pre .0), next-room b (c .before .before .before .before .loop .inv .1) (c .before .before .before .loop-test .taken), next-room b (c .before .before .before .before .loop .inv .2) (c .before .before .before .loop-test .taken))
@@ -79,13 +73,11 @@ write-from-spec =
     shared-slice-read-write-word
     shr-write-word
     shl-write-word
-    mul-write-word-2
     write-word-requires
     loop-holds
     add-k
-    mul-write-word-3
+    mul-write-word-2
     shared-slice-read-write-word-2
-    mul-write-word-4
     write-word-requires-2
     loop-less
     loop-again

@@ -1,88 +1,50 @@
 -- `sets::write_word` meets its contract. Assumes nothing.
-use lib.ListN.{length, length-set}
-use Rattle.sets.specs.Bytes.{inWord}
-use Rattle.sets.proofs.Bytes.{Telling, tell-start, tell-long, tell-less, tell-room, tell-more, tell-end}
+use borrow.Author.Needs.{needs}
 use native.Mathlib.Omega.{arith}
 use Rattle.sets.proofs.write_word.Statement.{statement}
 use Rattle.sets.proofs.write_word.Tie as tie
 
-abbrev Inv-loop : tie.InvT-loop
-Inv-loop w base line₀ left₀ at v₀ end₀ line left v end = Telling w base at line₀ line v end × Telling w base at left₀ left v end
+mul-write-narrow : tie.Need-mul-write-narrow
+mul-write-narrow c = omega arith
 
-abbrev μ-loop : tie.MeasureT-loop
-μ-loop w base line₀ left₀ at v₀ end₀ line left v end = length (inWord v base)
+write-narrow-requires : tie.Need-write-narrow-requires
+write-narrow-requires c κs = let p = c .before .before .before .before .before .pre in (omega (arith, c .before .before .if1 .taken), p .1, p .2)
 
-loop-holds : tie.Need-loop-holds Inv-loop μ-loop
-loop-holds c = let a = c .before .before .args in (tell-start (a .w) (a .base) (a .at) (a .line .now) (c .before .before .pre .1), tell-start (a .w) (a .base) (a .at) (a .left .now) (c .before .before .pre .2))
+same-length : tie.Need-same-length
+same-length c = search needs
 
-low-bit-requires : tie.Need-low-bit-requires Inv-loop μ-loop
-low-bit-requires c κs = omega arith
+same-length-2 : tie.Need-same-length-2
+same-length-2 c = search needs
 
-add-e : tie.Need-add-e Inv-loop μ-loop
-add-e c = omega (arith, c .before .before .before .before .before .pre .0, c .low-bit .ensures .below)
+returns : tie.Need-returns
+returns c = c .before .before .before .before .write-narrow .ensures
 
-cast-e : tie.Need-cast-e Inv-loop μ-loop
-cast-e c = omega (arith, c .before .before .before .before .before .pre .0, c .low-bit .ensures .below)
+mul-write-wide : tie.Need-mul-write-wide
+mul-write-wide c = omega (arith, c .before .before .before .pre .0)
 
-slice-write-line : tie.Need-slice-write-line Inv-loop μ-loop
-slice-write-line c = omega (arith, tell-room (c .before .before .loop .inv .0) (c .low-bit .ensures), tell-long (c .before .before .loop .inv .0))
+write-wide-requires : tie.Need-write-wide-requires
+write-wide-requires c κs = let p = c .before .before .before .before .before .pre in ((omega (arith, c .before .before .if1 .left), omega (arith, p .0)), p .1, p .2)
 
-add-line : tie.Need-add-line Inv-loop μ-loop
-add-line c = omega (arith, tell-room (c .before .before .loop .inv .0) (c .low-bit .ensures))
+same-length-3 : tie.Need-same-length-3
+same-length-3 c = search needs
 
-slice-write-line-2 : tie.Need-slice-write-line-2 Inv-loop μ-loop
-slice-write-line-2 c = simp length-set (omega (arith, tell-room (c .before .before .loop .inv .0) (c .low-bit .ensures), tell-long (c .before .before .loop .inv .0)))
+same-length-4 : tie.Need-same-length-4
+same-length-4 c = search needs
 
-slice-write-left : tie.Need-slice-write-left Inv-loop μ-loop
-slice-write-left c = omega (arith, tell-room (c .before .before .loop .inv .1) (c .low-bit .ensures), tell-long (c .before .before .loop .inv .1))
-
-add-left : tie.Need-add-left Inv-loop μ-loop
-add-left c = omega (arith, tell-room (c .before .before .loop .inv .1) (c .low-bit .ensures))
-
-slice-write-left-2 : tie.Need-slice-write-left-2 Inv-loop μ-loop
-slice-write-left-2 c = simp length-set (omega (arith, tell-room (c .before .before .loop .inv .1) (c .low-bit .ensures), tell-long (c .before .before .loop .inv .1)))
-
-add-end : tie.Need-add-end Inv-loop μ-loop
-add-end c = omega (arith, tell-room (c .before .before .loop .inv .1) (c .low-bit .ensures))
-
-sub-v : tie.Need-sub-v Inv-loop μ-loop
-sub-v c = omega arith
-
-loop-less : tie.Need-loop-less Inv-loop μ-loop
-loop-less c = tell-less (c .before .before .loop .inv .1) (c .low-bit .ensures)
-
-loop-again : tie.Need-loop-again Inv-loop μ-loop
-loop-again c = (tell-more (c .before .before .loop .inv .0) (c .low-bit .ensures), tell-more (c .before .before .loop .inv .1) (c .low-bit .ensures))
-
-same-length : tie.Need-same-length Inv-loop μ-loop
-same-length c = tell-long (c .before .loop .inv .0)
-
-same-length-2 : tie.Need-same-length-2 Inv-loop μ-loop
-same-length-2 c = tell-long (c .before .loop .inv .1)
-
-returns : tie.Need-returns Inv-loop μ-loop
-returns c = (tell-end (c .before .loop .inv .0) (omega arith), tell-end (c .before .loop .inv .1) (omega arith))
+returns-2 : tie.Need-returns-2
+returns-2 c = c .before .before .before .before .write-wide .ensures
 
 pub write-word-spec : {M : Type 1} → statement M
 write-word-spec =
     tie.close
     (tie.spec
-    Inv-loop
-    μ-loop
-    loop-holds
-    low-bit-requires
-    add-e
-    cast-e
-    slice-write-line
-    add-line
-    slice-write-line-2
-    slice-write-left
-    add-left
-    slice-write-left-2
-    add-end
-    sub-v
-    loop-less
-    loop-again
+    mul-write-narrow
+    write-narrow-requires
     same-length
     same-length-2
-    returns)
+    returns
+    mul-write-wide
+    write-wide-requires
+    same-length-3
+    same-length-4
+    returns-2)

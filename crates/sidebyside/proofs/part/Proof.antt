@@ -3,8 +3,9 @@ use borrow.Author.Needs.{needs}
 use native.Mathlib.Omega.{arith}
 use Prim.Native.Nat.{_-_}
 use lib.ListN.{length, drop}
+use Rattle.sidebyside.proofs.Whole.{whole-rises}
 use Rattle.sidebyside.proofs.Walking.{walk-rises, here}
-use Rattle.sidebyside.proofs.Finding.{Along, along-start, along-flip, along-equal, along-alone, along-inside, along-lower, along-same, parted, orders-flip}
+use Rattle.sidebyside.proofs.Finding.{Along, along-start, along-flip, along-equal, along-alone, along-lower, along-same, parted, orders-flip}
 use Rattle.sidebyside.specs.declared.Difference.the-variants.{Alike, OfYesterday, OfToday}
 use Rattle.sidebyside.proofs.part.Statement.{statement}
 use Rattle.sidebyside.proofs.part.Tie as tie
@@ -31,7 +32,7 @@ returns : tie.Need-returns Inv-loop μ-loop
 returns c = parted (c .before .before .before .loop .inv) (OfYesterday (c .before .before .before .loop .at) (c .before .before .before .loop .end)) (along-alone (c .before .before .before .loop .inv) (c .before .before .loop-test .taken) (c .before .if1 .taken)) (c .met .ensures)
 
 order-requires : tie.Need-order-requires Inv-loop μ-loop
-order-requires c κs = along-inside (c .before .before .loop .inv)
+order-requires c κs = (whole-rises (walk-rises (c .before .before .loop .inv .mine) (c .before .loop-test .taken)), whole-rises (walk-rises (c .before .before .loop .inv .yours) (omega (arith, c .if1 .left))))
 
 enum-told : tie.Need-enum-told Inv-loop μ-loop
 enum-told c = search needs

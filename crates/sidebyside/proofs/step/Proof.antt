@@ -1,13 +1,14 @@
 -- `sidebyside::step` meets its contract. Assumes nothing.
 use borrow.Author.Needs.{needs}
 use native.Mathlib.Omega.{arith}
+use Rattle.sidebyside.proofs.Whole.{whole-rises}
 use Rattle.sidebyside.proofs.Walking.{walk-rises}
-use Rattle.sidebyside.proofs.Merging.{merge-inside, merge-on, merge-first, merge-second, merge-same}
+use Rattle.sidebyside.proofs.Merging.{merge-on, merge-first, merge-second, merge-same}
 use Rattle.sidebyside.proofs.step.Statement.{statement}
 use Rattle.sidebyside.proofs.step.Tie as tie
 
 order-requires : tie.Need-order-requires
-order-requires c κs = merge-inside (c .before .before .pre .0)
+order-requires c κs = (whole-rises (walk-rises (c .before .before .pre .0 .mine) (c .before .before .pre .1 .0)), whole-rises (walk-rises (c .before .before .pre .0 .yours) (c .before .before .pre .1 .1)))
 
 enum-told : tie.Need-enum-told
 enum-told c = search needs

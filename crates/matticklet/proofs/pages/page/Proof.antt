@@ -12,7 +12,7 @@ slice-aggregate-next-room : tie.Need-slice-aggregate-next-room
 slice-aggregate-next-room c = search needs
 
 next-room-requires : tie.Need-next-room-requires
-next-room-requires c κs = (c .before .before .pre .0, (c .before .before .pre .1, let e = length-replicate {A = ℕ} 16384 0 in omega arith))
+next-room-requires c κs = (c .before .before .pre .0, (c .before .before .pre .1, rw length-replicate (omega arith)))
 
 slice-aggregate-spell : tie.Need-slice-aggregate-spell
 slice-aggregate-spell c = sym (c .before .before .next-room .kept .1 .1 .1 .1 .1 .1 .0)

@@ -62,6 +62,15 @@ shared-slice-read-two-2 c = omega (arith, rw (c .before .before .before .before 
 two-requires : tie.Need-two-requires
 two-requires c κs = search needs
 
+shared-slice-read-two-3 : tie.Need-shared-slice-read-two-3
+shared-slice-read-two-3 c = omega (arith, rw (c .before .before .before .before .length .ensures, c .before .match .keys7) at (c .before .before .if3 .left))
+
+shared-slice-read-two-4 : tie.Need-shared-slice-read-two-4
+shared-slice-read-two-4 c = omega (arith, rw (c .before .before .before .before .before .length .ensures, c .before .before .match .keys7) at (c .before .before .before .if3 .left))
+
+two-requires-2 : tie.Need-two-requires-2
+two-requires-2 c κs = search needs
+
 returns-4 : tie.Need-returns-4
 unfolding bodyOf
 returns-4 c = rw (c .four .ensures) (is-whole _ 1 (c .before .before .before .before .before .match .keys1) (c .before .before .before .before .before .before .before .before .before .before .if1 .left) (λ z. omega arith) (rw (c .before .before .before .before .before .before .before .before .length .ensures, c .before .before .before .before .before .match .keys1) at (c .before .before .before .before .before .before .if3 .left)))
@@ -87,7 +96,11 @@ unfolding bodyOf
 returns-9 c = rw (c .two .ensures) (is-whole _ 6 (c .before .before .before .match .keys6) (c .before .before .before .before .before .before .before .before .if1 .left) (λ z. omega arith) (rw (c .before .before .before .before .before .before .length .ensures, c .before .before .before .match .keys6) at (c .before .before .before .before .if3 .left)))
 
 returns-10 : tie.Need-returns-10
-returns-10 c = let r = c .match .rest in body-end _ _ (r .0 .0 .0 .0 .0 .1) (r .0 .0 .0 .0 .1) (r .0 .0 .0 .1) (r .0 .0 .1) (r .0 .1) (r .1) ∙ is-whole _ _ refl (c .before .before .before .before .before .if1 .left) (λ z. c .before .before .if2 .left (c .before .before .before .length .ensures ∙ z)) (rw (c .before .before .before .length .ensures) at (c .before .if3 .left))
+unfolding bodyOf
+returns-10 c = rw (c .two2 .ensures) (is-whole _ 8 (c .before .before .before .match .keys7) (c .before .before .before .before .before .before .before .before .if1 .left) (λ z. omega arith) (rw (c .before .before .before .before .before .before .length .ensures, c .before .before .before .match .keys7) at (c .before .before .before .before .if3 .left)))
+
+returns-11 : tie.Need-returns-11
+returns-11 c = let r = c .match .rest in body-end _ _ (r .0 .0 .0 .0 .0 .0 .1) (r .0 .0 .0 .0 .0 .1) (r .0 .0 .0 .0 .1) (r .0 .0 .0 .1) (r .0 .0 .1) (r .0 .1) (r .1) ∙ is-whole _ _ refl (c .before .before .before .before .before .if1 .left) (λ z. c .before .before .if2 .left (c .before .before .before .length .ensures ∙ z)) (rw (c .before .before .before .length .ensures) at (c .before .if3 .left))
 
 pub decode-spec : {M : Type 1} → statement M
 decode-spec =
@@ -111,10 +124,14 @@ decode-spec =
     shared-slice-read-two
     shared-slice-read-two-2
     two-requires
+    shared-slice-read-two-3
+    shared-slice-read-two-4
+    two-requires-2
     returns-4
     returns-5
     returns-6
     returns-7
     returns-8
     returns-9
-    returns-10)
+    returns-10
+    returns-11)

@@ -44,11 +44,17 @@ length-requires-6 c κs = search needs
 enum-told-5 : tie.Need-enum-told-5
 enum-told-5 c = search needs
 
+length-requires-7 : tie.Need-length-requires-7
+length-requires-7 c κs = search needs
+
 enum-told-6 : tie.Need-enum-told-6
 enum-told-6 c = search needs
 
 enum-told-7 : tie.Need-enum-told-7
 enum-told-7 c = search needs
+
+enum-told-8 : tie.Need-enum-told-8
+enum-told-8 c = search needs
 
 returns-2 : tie.Need-returns-2
 returns-2 c = search needs
@@ -74,6 +80,9 @@ returns-8 c = search needs
 returns-9 : tie.Need-returns-9
 returns-9 c = search needs
 
+returns-10 : tie.Need-returns-10
+returns-10 c = search needs
+
 pub width-spec : {M : Type 1} → statement M
 width-spec =
     tie.close
@@ -91,8 +100,10 @@ width-spec =
     enum-told-4
     length-requires-6
     enum-told-5
+    length-requires-7
     enum-told-6
     enum-told-7
+    enum-told-8
     returns-2
     returns-3
     returns-4
@@ -100,4 +111,5 @@ width-spec =
     returns-6
     returns-7
     returns-8
-    returns-9)
+    returns-9
+    returns-10)

@@ -45,6 +45,12 @@ enum-known-r-4 c = search needs
 admit-gate-input-requires : tie.Need-admit-gate-input-requires
 admit-gate-input-requires c κs = search needs
 
+enum-known-r-5 : tie.Need-enum-known-r-5
+enum-known-r-5 c = search needs
+
+admit-wide-input-requires : tie.Need-admit-wide-input-requires
+admit-wide-input-requires c κs = search needs
+
 enum-told-4 : tie.Need-enum-told-4
 enum-told-4 c = search needs
 
@@ -73,7 +79,10 @@ returns-7 : tie.Need-returns-7
 returns-7 c = rw (c .before .before .r4 .given .1) (rw (c .before .before .before .before .before .width .ensures, c .before .before .r4 .given .1) at (c .admit-gate-input .ensures))
 
 returns-8 : tie.Need-returns-8
-returns-8 c = rw (c .before .enum-told4 .given .1) (rw (c .before .before .before .before .width .ensures, c .before .enum-told4 .given .1) at (c .admit-end .ensures))
+returns-8 c = rw (c .before .before .r5 .given .1) (rw (c .before .before .before .before .before .width .ensures, c .before .before .r5 .given .1) at (c .admit-wide-input .ensures))
+
+returns-9 : tie.Need-returns-9
+returns-9 c = rw (c .before .enum-told4 .given .1) (rw (c .before .before .before .before .width .ensures, c .before .enum-told4 .given .1) at (c .admit-end .ensures))
 
 pub admit-spec : {M : Type 1} → statement M
 admit-spec =
@@ -92,6 +101,8 @@ admit-spec =
     admit-event-input-requires
     enum-known-r-4
     admit-gate-input-requires
+    enum-known-r-5
+    admit-wide-input-requires
     enum-told-4
     admit-end-requires
     returns
@@ -101,4 +112,5 @@ admit-spec =
     returns-5
     returns-6
     returns-7
-    returns-8)
+    returns-8
+    returns-9)

@@ -1,11 +1,12 @@
 -- `sidebyside::cut::next` meets its contract. Assumes nothing.
 use native.Mathlib.Omega.{arith}
+use Rattle.sidebyside.proofs.Whole.{whole-rises}
 use Rattle.sidebyside.proofs.TwoCuts.{follow-none, follow-some}
 use Rattle.sidebyside.proofs.cut.next.Statement.{statement}
 use Rattle.sidebyside.proofs.cut.next.Tie as tie
 
 common-requires : tie.Need-common-requires
-common-requires c κs = (omega (arith, c .before .pre .on, c .before .pre .inside), c .before .pre .inside)
+common-requires c κs = (whole-rises (c .before .pre), c .before .pre .inside)
 
 returns : tie.Need-returns
 returns c = follow-none (c .before .before .common .ensures) (c .if1 .taken)

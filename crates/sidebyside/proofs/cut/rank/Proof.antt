@@ -3,7 +3,7 @@ use borrow.Author.Needs.{needs}
 use native.Mathlib.Omega.{arith}
 use mathlib.Core.Path.{refl}
 use Prim.Native.Nat.{_+_}
-use Rattle.sidebyside.proofs.OneCut.{rank-short, rank-other, rank-member}
+use Rattle.sidebyside.proofs.OneCut.{rank-short, rank-other, rank-narrow}
 use Rattle.sidebyside.proofs.cut.rank.Statement.{statement}
 use Rattle.sidebyside.proofs.cut.rank.Tie as tie
 
@@ -16,20 +16,29 @@ returns c = rank-short (c .before .before .args .s .now) (c .before .before .arg
 shared-slice-read-if2 : tie.Need-shared-slice-read-if2
 shared-slice-read-if2 c = search needs
 
+add-narrow-number : tie.Need-add-narrow-number
+add-narrow-number c = search needs
+
+shared-slice-read-narrow-number : tie.Need-shared-slice-read-narrow-number
+shared-slice-read-narrow-number c = search needs
+
+narrow-number-requires : tie.Need-narrow-number-requires
+narrow-number-requires c κs = search needs
+
 returns-2 : tie.Need-returns-2
-returns-2 c = rank-other (c .before .before .before .before .args .s .now) (c .before .before .before .before .args .i) refl (omega (arith, c .before .before .if1 .left, c .before .before .before .before .pre)) (c .if2 .taken)
+returns-2 c = rank-narrow (c .before .before .before .before .before .before .args .s .now) (c .before .before .before .before .before .before .args .i) (omega (arith, c .before .before .before .before .if1 .left, c .before .before .before .before .before .before .pre)) (c .before .before .if2 .taken) (c .narrow-number .ensures) (omega (arith, c .narrow-number .ensures, c .before .shared-slice-known3 .given (c .before .before .before .before .before .before .args .i + 1)))
 
-add-wide : tie.Need-add-wide
-add-wide c = search needs
+shared-slice-read-if3 : tie.Need-shared-slice-read-if3
+shared-slice-read-if3 c = search needs
 
-shared-slice-read-wide : tie.Need-shared-slice-read-wide
-shared-slice-read-wide c = search needs
-
-wide-requires : tie.Need-wide-requires
-wide-requires c κs = search needs
+wide-rank-requires : tie.Need-wide-rank-requires
+wide-rank-requires c κs = (omega (arith, c .before .before .before .before .if1 .left, c .before .before .before .before .before .before .pre), c .if3 .taken)
 
 returns-3 : tie.Need-returns-3
-returns-3 c = rank-member (c .before .before .before .before .before .before .args .s .now) (c .before .before .before .before .before .before .args .i) (omega (arith, c .before .before .before .before .if1 .left, c .before .before .before .before .before .before .pre)) (c .before .before .if2 .left) (c .wide .ensures) (omega (arith, c .wide .ensures, c .before .shared-slice-known3 .given ((c .before .before .before .before .before .before .args .i) + 1)))
+returns-3 c = c .wide-rank .ensures
+
+returns-4 : tie.Need-returns-4
+returns-4 c = rank-other (c .before .before .before .before .before .before .args .s .now) (c .before .before .before .before .before .before .args .i) refl (omega (arith, c .before .before .before .before .if1 .left, c .before .before .before .before .before .before .pre)) (c .before .before .if2 .left) (c .if3 .left)
 
 pub rank-spec : {M : Type 1} → statement M
 rank-spec =
@@ -38,8 +47,11 @@ rank-spec =
     sub-if1
     returns
     shared-slice-read-if2
+    add-narrow-number
+    shared-slice-read-narrow-number
+    narrow-number-requires
     returns-2
-    add-wide
-    shared-slice-read-wide
-    wide-requires
-    returns-3)
+    shared-slice-read-if3
+    wide-rank-requires
+    returns-3
+    returns-4)

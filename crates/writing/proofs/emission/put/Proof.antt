@@ -72,17 +72,35 @@ cast-b-6 c = search needs
 slice-write-b-10 : tie.Need-slice-write-b-10
 slice-write-b-10 c = simp length-set (omega (arith, rw (c .before .r4 .given .1) at (c .before .before .before .before .pre)))
 
+enum-known-r-5 : tie.Need-enum-known-r-5
+enum-known-r-5 c = search needs
+
+slice-write-b-11 : tie.Need-slice-write-b-11
+slice-write-b-11 c = omega (arith, rw (c .before .r5 .given .1) at (c .before .before .before .before .pre))
+
+cast-b-7 : tie.Need-cast-b-7
+cast-b-7 c = search needs
+
+slice-write-b-12 : tie.Need-slice-write-b-12
+slice-write-b-12 c = simp length-set (omega (arith, rw (c .before .r5 .given .1) at (c .before .before .before .before .pre)))
+
+cast-b-8 : tie.Need-cast-b-8
+cast-b-8 c = search needs
+
+slice-write-b-13 : tie.Need-slice-write-b-13
+slice-write-b-13 c = simp length-set (omega (arith, rw (c .before .r5 .given .1) at (c .before .before .before .before .pre)))
+
 enum-told : tie.Need-enum-told
 enum-told c = search needs
 
-slice-write-b-11 : tie.Need-slice-write-b-11
-slice-write-b-11 c = omega (arith, rw (c .enum-told .given .1) at (c .before .before .before .pre))
+slice-write-b-14 : tie.Need-slice-write-b-14
+slice-write-b-14 c = omega (arith, rw (c .enum-told .given .1) at (c .before .before .before .pre))
 
 enum-told-2 : tie.Need-enum-told-2
 enum-told-2 c = search needs
 
-slice-write-b-12 : tie.Need-slice-write-b-12
-slice-write-b-12 c = omega (arith, rw (c .enum-told2 .given .1) at (c .before .before .before .pre))
+slice-write-b-15 : tie.Need-slice-write-b-15
+slice-write-b-15 c = omega (arith, rw (c .enum-told2 .given .1) at (c .before .before .before .pre))
 
 enum-told-3 : tie.Need-enum-told-3
 enum-told-3 c = search needs
@@ -118,19 +136,25 @@ same-length-5 : tie.Need-same-length-5
 same-length-5 c = search needs
 
 returns-5 : tie.Need-returns-5
-returns-5 c = rw (c .enum-told .given .1) (store-1 (now (c .before .before .before .args .b)) _ (rw (c .enum-told .given .1) at (c .before .before .before .pre)))
+returns-5 c = rw (c .before .r5 .given .1) (store-3 (now (c .before .before .before .before .args .b)) _ _ _ (rw (c .before .r5 .given .1) at (c .before .before .before .before .pre)))
 
 same-length-6 : tie.Need-same-length-6
 same-length-6 c = search needs
 
 returns-6 : tie.Need-returns-6
-returns-6 c = rw (c .enum-told2 .given .1) (store-1 (now (c .before .before .before .args .b)) _ (rw (c .enum-told2 .given .1) at (c .before .before .before .pre)))
+returns-6 c = rw (c .enum-told .given .1) (store-1 (now (c .before .before .before .args .b)) _ (rw (c .enum-told .given .1) at (c .before .before .before .pre)))
+
+same-length-7 : tie.Need-same-length-7
+same-length-7 c = search needs
 
 returns-7 : tie.Need-returns-7
-returns-7 c = rw (c .enum-told3 .given .1) refl
+returns-7 c = rw (c .enum-told2 .given .1) (store-1 (now (c .before .before .before .args .b)) _ (rw (c .enum-told2 .given .1) at (c .before .before .before .pre)))
 
 returns-8 : tie.Need-returns-8
-returns-8 c = rw (c .enum-told4 .given .1) refl
+returns-8 c = rw (c .enum-told3 .given .1) refl
+
+returns-9 : tie.Need-returns-9
+returns-9 c = rw (c .enum-told4 .given .1) refl
 
 pub put-spec : {M : Type 1} → statement M
 put-spec =
@@ -157,10 +181,16 @@ put-spec =
     slice-write-b-9
     cast-b-6
     slice-write-b-10
-    enum-told
+    enum-known-r-5
     slice-write-b-11
-    enum-told-2
+    cast-b-7
     slice-write-b-12
+    cast-b-8
+    slice-write-b-13
+    enum-told
+    slice-write-b-14
+    enum-told-2
+    slice-write-b-15
     enum-told-3
     enum-told-4
     same-length
@@ -175,5 +205,7 @@ put-spec =
     returns-5
     same-length-6
     returns-6
+    same-length-7
     returns-7
-    returns-8)
+    returns-8
+    returns-9)
