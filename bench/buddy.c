@@ -65,7 +65,7 @@ int main(int words, char **word)
     bdd_init(atoi(word[2]), atoi(word[3]));
     const uint8_t *b = bytes;
     int events = 0, count = 0;
-    for (; b[0] == 1; b += 5) events++;
+    for (; b[0] == 1 || b[0] == 0x11; b += b[0] == 1 ? 5 : 7) events++;
     bdd_setvarnum(events);
     CALLGRIND_TOGGLE_COLLECT;
     while (b[0] != 7) {

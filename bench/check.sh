@@ -34,4 +34,8 @@ for seed in $(seq 1 $((${1:-200} / 4))); do
     $second random $seed wide > "$work/wide.tree"
     same "$work/wide.tree" 4000 500 1000
 done
+for seed in $(seq 1 $((${1:-200} / 4))); do
+    $second random $seed sited > "$work/sited.tree"
+    same "$work/sited.tree" 600 500 1000
+done
 echo "$compared compared, 0 differ"

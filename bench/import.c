@@ -92,7 +92,7 @@ static double timed(struct text text, struct matticklet_import *answer)
 {
     static uint32_t chances[MATTICKLET_EVENTS];
     static uint8_t kinds[MATTICKLET_GATES], leasts[MATTICKLET_GATES], sizes[MATTICKLET_GATES];
-    static uint16_t inputs[MATTICKLET_INPUTS];
+    static uint16_t inputs[MATTICKLET_INPUTS], sites[MATTICKLET_EVENTS];
     size_t n = text.length + 1;
     uint32_t *list[LISTS];
     double best = 0;
@@ -100,7 +100,8 @@ static double timed(struct text text, struct matticklet_import *answer)
     for (int round = 0; round < ROUNDS; round++) {
         double start = now();
         matticklet_import(text.bytes, text.length, list[0], n, list[1], n, list[2], n, list[3], n, list[4], n, list[5], n,
-                          list[6], n, list[7], n, list[8], n, list[9], n, list[10], n, answer, chances, kinds, leasts, sizes, inputs);
+                          list[6], n, list[7], n, list[8], n, list[9], n, list[10], n, answer, chances, sites, kinds, leasts, sizes,
+                          inputs);
         double took = now() - start;
         if (round == 0 || took < best) best = took;
     }

@@ -113,10 +113,10 @@ static void list_all(const struct matticklet_analysis *a, size_t events, size_t 
 /* Only what an accepted tree needs: its events' chances, and how many gates it has. */
 static size_t chances_of(const uint8_t *b, uint32_t *chances, size_t *gates)
 {
-    static const uint8_t width[] = {1, 5, 2, 2, 3, 2, 3, 1, 3};
+    static const uint8_t width[] = {[1] = 5, [2] = 2, [3] = 2, [4] = 3, [5] = 2, [6] = 3, [8] = 3, [0x11] = 7};
     size_t events = 0;
     for (*gates = 0; b[0] != 7; b += width[b[0]]) {
-        if (b[0] == 1) chances[events++] = b[1] | b[2] << 8 | b[3] << 16 | (uint32_t)b[4] << 24;
+        if (b[0] == 1 || b[0] == 0x11) chances[events++] = b[1] | b[2] << 8 | b[3] << 16 | (uint32_t)b[4] << 24;
         *gates += b[0] >= 2 && b[0] <= 4;
     }
     return events;

@@ -264,6 +264,7 @@ static void decode(const uint8_t *b, Tree *tree)
     for (u32 inputs = 0;;) {
         switch (b[0]) {
         case 1: tree->events++, b += 5; break;
+        case 0x11: tree->events++, b += 7; break;
         case 2: case 3: tree->kind[tree->gates] = b[0], tree->n[tree->gates++] = b[1], b += 2; break;
         case 4: tree->kind[tree->gates] = 4, tree->k[tree->gates] = b[1], tree->n[tree->gates++] = b[2], b += 3; break;
         case 5: tree->input[inputs++] = b[1], b += 2; break;

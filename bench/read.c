@@ -1,8 +1,8 @@
 /* Reads a tree by the library; callgrind counts the call alone.
 
-   read FILE            that tree
-   read worst EVENTS    the longest tree of so many events that is accepted, from 256 on, made so that each search for a use goes as far as it can:
-                        its first gates use event 0 and gate 0 alone, its last ones all else */
+   read FILE                    that tree
+   read worst EVENTS [sites]    the longest tree of so many events that is accepted, from 256 on, with sites or without, made so that each search for a
+                                use goes as far as it can: its first gates use event 0 and gate 0 alone, its last ones all else */
 
 #include "matticklet.h"
 #include <stdio.h>
@@ -23,16 +23,16 @@ static void put_gate_input(int gate) { put(6, gate & 255, gate >> 8); }
 
 static void put_event_input(int event) { put(event < 256 ? 5 : 8, event & 255, event >> 8); }
 
-static void worst(int events)
+static void worst(int events, int sited)
 {
     /* Used by the last gates: every event but event 0, every gate but gate 0 and the root; gate 0 again where there is room. */
     int used = events - 1 + MATTICKLET_GATES - 2;
     int last = (used + MATTICKLET_GATE_INPUTS - 1) / MATTICKLET_GATE_INPUTS, first = MATTICKLET_GATES - last;
     int again = MATTICKLET_GATE_INPUTS * last - used;
     for (int e = 0; e < events; e++) {
-        put(1, 0, 0);
-        memset(end, 0, 3);
-        end += 3;
+        *end++ = sited ? 0x11 : 1;
+        memset(end, 0, 6);
+        end += sited ? 6 : 4;
     }
     put(4, 1, 1);
     put_event_input(0);
@@ -60,10 +60,10 @@ int main(int words, char **word)
 {
     static uint32_t chances[MATTICKLET_EVENTS];
     static uint8_t kinds[MATTICKLET_GATES], leasts[MATTICKLET_GATES], sizes[MATTICKLET_GATES];
-    static uint16_t inputs[MATTICKLET_INPUTS];
+    static uint16_t inputs[MATTICKLET_INPUTS], sites[MATTICKLET_EVENTS];
     if (words < 2) return 2;
     if (words > 2 && !strcmp(word[1], "worst"))
-        worst(atoi(word[2]));
+        worst(atoi(word[2]), words > 3);
     else {
         FILE *file = fopen(word[1], "rb");
         if (!file) return 2;
@@ -72,7 +72,7 @@ int main(int words, char **word)
     }
     struct matticklet_reading r;
     CALLGRIND_TOGGLE_COLLECT;
-    matticklet_read(bytes, (size_t)(end - bytes), &r, chances, kinds, leasts, sizes, inputs);
+    matticklet_read(bytes, (size_t)(end - bytes), &r, chances, sites, kinds, leasts, sizes, inputs);
     CALLGRIND_TOGGLE_COLLECT;
     CALLGRIND_DUMP_STATS_AT("read");
     printf("%d %llu\n", (int)(end - bytes), (unsigned long long)r.number);

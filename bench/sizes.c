@@ -119,7 +119,7 @@ int main(int words, char **word)
     matticklet_analyse(bytes, length, table, 3 * nodes, cuts, 3 * nodes, gates, MATTICKLET_GATES, added, MATTICKLET_GATES, memo, MEMO,
                        heads, each, next, each, marks, each, own, each, &a);
     if (a.number) return 3;
-    for (size_t i = 0; bytes[i] == 1; i += 5) events++;
+    for (size_t i = 0; bytes[i] == 1 || bytes[i] == 0x11; i += bytes[i] == 1 ? 5 : 7) events++;
     u64 *mine = memory(8 * SIZES), *theirs = memory(8 * SIZES), *less = memory(8 * each), *work = memory(8 * each), *reached = memory(8 * each);
     struct matticklet_tally tally;
     u64 answer;

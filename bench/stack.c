@@ -23,10 +23,11 @@ static uint32_t nodes[3 * CAPACITY], cuts[3 * CAPACITY], gates[MATTICKLET_GATES]
 static uint32_t heads[AREA], next[AREA], marks[AREA], own[AREA], chances[MATTICKLET_EVENTS];
 static uint64_t counts[MATTICKLET_SIZES], less[AREA], work[AREA], reached[AREA];
 static uint8_t kinds[MATTICKLET_GATES], leasts[MATTICKLET_GATES], sizes[MATTICKLET_GATES];
-static uint16_t inputs[MATTICKLET_INPUTS];
+static uint16_t inputs[MATTICKLET_INPUTS], sites[MATTICKLET_EVENTS];
 static uint32_t lists[11][MATTICKLET_TEXT_BYTES + 1];
 static struct matticklet_reading reading;
 static struct matticklet_writing writing;
+static struct matticklet_move moved, back;
 static struct matticklet_analysis analysis;
 static struct matticklet_listing listing;
 static struct matticklet_ends ends;
@@ -56,8 +57,13 @@ static void make(uint8_t kind, int parts, uint8_t k)
     tree_length = (size_t)(at - tree);
 }
 
-static void read_tree(void) { matticklet_read(tree, tree_length, &reading, chances, kinds, leasts, sizes, inputs); }
-static void write_tree(void) { matticklet_write(reading.events, reading.gates, chances, kinds, leasts, sizes, inputs, room, ROOM, &writing); }
+static void read_tree(void) { matticklet_read(tree, tree_length, &reading, chances, sites, kinds, leasts, sizes, inputs); }
+static void write_tree(void)
+{
+    matticklet_write(reading.events, reading.gates, reading.sited, chances, sites, kinds, leasts, sizes, inputs, room, ROOM, &writing);
+}
+static void to_sites(void) { matticklet_to_sites(tree, tree_length, room, ROOM, &moved); }
+static void from_sites(void) { matticklet_from_sites(room, moved.bytes, text, sizeof text, &back); }
 static void analyse(void)
 {
     matticklet_analyse(tree, tree_length, nodes, 3 * CAPACITY, cuts, 3 * CAPACITY, gates, MATTICKLET_GATES, added, MATTICKLET_GATES, memo, memo_length,
@@ -83,12 +89,15 @@ static void folder(void)
     matticklet_folder(tree, tree_length, &tree_length, 1, nodes, 3 * CAPACITY, cuts, 3 * CAPACITY, gates, MATTICKLET_GATES, memo, memo_length, heads, AREA,
                       next, AREA, marks, AREA, own, AREA, counts, MATTICKLET_SIZES, less, AREA, work, AREA, reached, AREA, &gathered);
 }
-static void export_tree(void) { matticklet_export(reading.events, reading.gates, chances, kinds, leasts, sizes, inputs, text, sizeof text, &exported); }
+static void export_tree(void)
+{
+    matticklet_export(reading.events, reading.gates, reading.sited, chances, sites, kinds, leasts, sizes, inputs, text, sizeof text, &exported);
+}
 static void import_text(void)
 {
     enum { LONG = MATTICKLET_TEXT_BYTES + 1 };
     matticklet_import(text, text_length, lists[0], LONG, lists[1], LONG, lists[2], LONG, lists[3], LONG, lists[4], LONG, lists[5], LONG, lists[6], LONG,
-                      lists[7], LONG, lists[8], LONG, lists[9], LONG, lists[10], LONG, &imported, chances, kinds, leasts, sizes, inputs);
+                      lists[7], LONG, lists[8], LONG, lists[9], LONG, lists[10], LONG, &imported, chances, sites, kinds, leasts, sizes, inputs);
 }
 
 static void *run(void *call) { ((void (*)(void))call)(); return NULL; }
@@ -127,6 +136,8 @@ int main(void)
         printf("%s\n", names[k]);
         bad |= say("read", read_tree, base, &reading.number);
         bad |= say("write", write_tree, base, &writing.number);
+        bad |= say("to sites", to_sites, base, &moved.number);
+        bad |= say("from sites", from_sites, base, &back.number);
         bad |= say("analyse", analyse, base, &analysis.number);
         bad |= say("list", list, base, &listing.number);
         bad |= say("compare", compare, base, &comparison.number);

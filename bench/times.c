@@ -88,7 +88,8 @@ static void analyse(const char *file_name, size_t nodes, size_t memo)
     matticklet_analyse(bytes, length, lent_nodes, 3 * nodes, cuts, 3 * nodes, gates, MATTICKLET_GATES, added, MATTICKLET_GATES,
                        lent_memo, memo, heads, each, next, each, marks, each, own, each, &a);
     if (a.number) exit(3);
-    while (bytes[5 * lent.events] == 1) lent.events++;
+    size_t width = bytes[0] == 1 ? 5 : 7; /* a tree's events are all of one kind */
+    while (bytes[width * lent.events] == bytes[0]) lent.events++;
     lent.cuts = cuts;
     lent.length = 3 * nodes;
     lent.count = a.cut_nodes;

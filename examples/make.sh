@@ -2,6 +2,7 @@
 # Makes the trees of this directory from their typed equations, and what the program must write for each. The metropolis is typed by metropolis.sh.
 # The .names files say which event and gate got which number; corridor.cuts has the cuts by name, as c/equations prints them, and corridor.sizes,
 # metropolis.sizes and folder.sizes how many there are of each size, in these two and in three trees together, as c/sizes prints them.
+# corridor_sites is the corridor with the sites of corridor.sites.
 set -e
 cd "$(dirname "$0")"
 cargo build --release --offline --quiet -j1 --manifest-path ../tests/second/Cargo.toml
@@ -12,6 +13,9 @@ for tree in case1 case6 corridor european1 metropolis; do
     $second names $tree.txt > $tree.names
     $second program $tree.tree > $tree.out
 done
+# shellcheck disable=SC2046 # a word for each site
+$second at corridor.tree $(awk '$1 == "event" { name[$2] = $3; next } NF == 2 { site[$1] = $2 } END { for (e = 0; e in name; e++) print site[name[e]] }' corridor.names corridor.sites) > corridor_sites.tree
+$second program corridor_sites.tree > corridor_sites.out
 awk -f by_name.awk corridor.names corridor.out > corridor.cuts
 $second sizes corridor.tree > corridor.sizes
 $second sizes metropolis.tree > metropolis.sizes

@@ -44,7 +44,8 @@ enum {
     MATTICKLET_ROOTS = 18,       /* not exactly one root */
     MATTICKLET_TOO_MANY = 19,    /* more than 2^64 - 1 cuts of one size */
     MATTICKLET_BAD_LISTING = 20, /* a listing out of order, or with a bad record */
-    MATTICKLET_NARROW = 21       /* an input of kind 08 with a number below 256 */
+    MATTICKLET_NARROW = 21,      /* an input of kind 08 with a number below 256 */
+    MATTICKLET_SITED = 22        /* a site that isn't 0, where the form to be written has none */
 };
 
 /* Limits of a tree and of a table. */
@@ -53,7 +54,7 @@ enum {
     MATTICKLET_GATES = 512,
     MATTICKLET_GATE_INPUTS = 64,
     MATTICKLET_INPUTS = 4096,          /* of all gates together */
-    MATTICKLET_TREE_BYTES = 18689,     /* the longest tree that is accepted */
+    MATTICKLET_TREE_BYTES = 20737,     /* the longest tree that is accepted; 18689 without sites */
     MATTICKLET_TEXT_BYTES = 64083,     /* the longest text that a tree is exported as */
     MATTICKLET_CUT_BYTES = 2817,       /* the longest cut of a listing */
     MATTICKLET_TABLE_NUMBERS = 3000000,
@@ -65,15 +66,19 @@ enum {
 
 /* The bytes of a tree, a record after the other, low bytes first:
  *   01 c c c c   next event, its chance in billionths
+ *   11 c c c c s s          next event, its chance, and its site: where it stands on the road
  *   02 n         next gate: and of n inputs          03 n   or of n inputs          04 k n   at least k of n inputs
  *   05 e         input: event e, below 256           08 e e input: event e, from 256 on
  *   06 g g       input: gate g                       07     end
- * Events come first, then gates, each followed by its n inputs; the last gate is the root. An event's number decides between 05 and 08: 08 with a number
+ * Kinds are hexadecimal. Events come first, then gates, each followed by its n inputs; the last gate is the root. The events of a tree are all 01, the
+ * old form, or all 11, the new one: a mixture is refused with 3 at the first record of the other kind, after 1 and before 4 and 7. No answer of an analysis,
+ * a listing or a bracket depends on sites. An event's number decides between 05 and 08: 08 with a number
  * below 256 is refused with 21, after 3 and before 6. An input may stand twice in a gate; an at-least gate counts it once. So 5 is judged after the
  * gate's last input, and its place is the gate's record; whatever is wrong with one of those inputs comes first.
  *
- * A tree in memory is its two counts and five arrays:
- *   chances   of the events;
+ * A tree in memory is its two counts, its form and six arrays:
+ *   sited     1 for the new form, 0 for the old one: a tree of the new form is written with 11 also where all its sites are 0;
+ *   chances   of the events; sites: theirs, 0 in the old form;
  *   kinds     of the gates, 2, 3 or 4; leasts: their k (0 unless the kind is 4); sizes: their n;
  *   inputs    of all gates, one gate after the other: event e is e, gate g is MATTICKLET_EVENTS + g. */
 
@@ -82,27 +87,45 @@ struct matticklet_reading {
     uint64_t place;  /* offset of the record at fault; 0 where done */
     uint64_t events; /* 0 in a refusal */
     uint64_t gates;  /* 0 in a refusal */
+    uint64_t sited;  /* 1 for the new form; 0 for the old one, and in a refusal */
 };
 
-/* Reads a tree. Done: the five arrays hold the tree and zeros behind its counts. A refusal leaves them as they were. */
+/* Reads a tree. Done: the six arrays hold the tree and zeros behind its counts. A refusal leaves them as they were. */
 void matticklet_read(const uint8_t *bytes, size_t bytes_length, struct matticklet_reading *answer,
-                     uint32_t chances[MATTICKLET_EVENTS], uint8_t kinds[MATTICKLET_GATES],
-                     uint8_t leasts[MATTICKLET_GATES], uint8_t sizes[MATTICKLET_GATES],
-                     uint16_t inputs[MATTICKLET_INPUTS]);
+                     uint32_t chances[MATTICKLET_EVENTS], uint16_t sites[MATTICKLET_EVENTS],
+                     uint8_t kinds[MATTICKLET_GATES], uint8_t leasts[MATTICKLET_GATES],
+                     uint8_t sizes[MATTICKLET_GATES], uint16_t inputs[MATTICKLET_INPUTS]);
 
 struct matticklet_writing {
-    uint64_t number; /* 0, 2 to 8 as the tree's bytes would get, or 9 */
-    uint64_t place;  /* as those bytes would get; 0 with 9 */
+    uint64_t number; /* 0, 2 to 8 as the tree's bytes would get, 22, or 9 */
+    uint64_t place;  /* as those bytes would get; with 22 of the record that would lose its site; 0 with 9 */
     uint64_t bytes;  /* written; 0 in a refusal */
 };
 
-/* Writes a tree's bytes to the front of room: 2 to 8, then 9 where the room is shorter than the bytes. Any values may stand in the
- * arrays, and counts may exceed them. The room behind the bytes stays as it was; a refusal leaves all of it so. A room of
- * MATTICKLET_TREE_BYTES is enough for any tree. */
-void matticklet_write(size_t events, size_t gates, const uint32_t chances[MATTICKLET_EVENTS],
-                      const uint8_t kinds[MATTICKLET_GATES], const uint8_t leasts[MATTICKLET_GATES],
-                      const uint8_t sizes[MATTICKLET_GATES], const uint16_t inputs[MATTICKLET_INPUTS],
-                      uint8_t *room, size_t room_length, struct matticklet_writing *answer);
+/* Writes a tree's bytes to the front of room, in its form: 2 to 8, then 22 where the form is the old one and an event has a site that isn't 0, at the
+ * first such event's record, then 9 where the room is shorter than the bytes. Any values may stand in the arrays, and counts may exceed them. The room
+ * behind the bytes stays as it was; a refusal leaves all of it so. A room of MATTICKLET_TREE_BYTES is enough for any tree. `sited` is a `bool` of C:
+ * 0 or 1, and no other value may be handed over. */
+void matticklet_write(size_t events, size_t gates, bool sited, const uint32_t chances[MATTICKLET_EVENTS],
+                      const uint16_t sites[MATTICKLET_EVENTS], const uint8_t kinds[MATTICKLET_GATES],
+                      const uint8_t leasts[MATTICKLET_GATES], const uint8_t sizes[MATTICKLET_GATES],
+                      const uint16_t inputs[MATTICKLET_INPUTS], uint8_t *room, size_t room_length,
+                      struct matticklet_writing *answer);
+
+struct matticklet_move {
+    uint64_t number; /* 0 to 9, 21, or, going back, 22 */
+    uint64_t place;  /* of 1 to 8, 21 and 22, in the bytes that were given; else 0 */
+    uint64_t bytes;  /* written; 0 in a refusal */
+};
+
+/* Moves the bytes of a tree to the new form, every site 0, or back to the old one, to the front of room: 1 to 8 or 21 as matticklet_read gives them; going
+ * back 22 exactly when some site isn't 0, at the first such record; then 9 where the room is shorter than what would be written. A tree that has that form
+ * already is written as it is, its sites too. To the new form and back gives the same bytes; back and to the new form too. The room behind the bytes
+ * stays as it was; a refusal leaves all of it so. A room of MATTICKLET_TREE_BYTES is enough for any tree. */
+void matticklet_to_sites(const uint8_t *bytes, size_t bytes_length, uint8_t *room, size_t room_length,
+                         struct matticklet_move *answer);
+void matticklet_from_sites(const uint8_t *bytes, size_t bytes_length, uint8_t *room, size_t room_length,
+                           struct matticklet_move *answer);
 
 /* A node is three numbers: event, branch with the event failed, branch with it sound. 0 and 1 are the leaves and take no room; node i, from
  * 2 on, stands at 3 * (i - 2). A table's capacity is its length / 3. */
@@ -203,7 +226,8 @@ struct matticklet_import {
  *                    zeros; with every other answer but 9 zero
  *   shown            done: for each event and then each gate the offset of its name's first appearance in an equation, then zeros; with every
  *                    other answer but 9 zero
- * 9 changes nothing. Done: the five arrays hold the tree and zeros behind its counts, as matticklet_read leaves them; a refusal changes none of them. */
+ * 9 changes nothing. Done: the six arrays hold the tree and zeros behind its counts, as matticklet_read leaves them; a refusal changes none of them.
+ * Equations have no sites: every site is 0, and the form is the old one. */
 void matticklet_import(const uint8_t *text, size_t text_length, uint32_t *heads, size_t heads_length,
                        uint32_t *next, size_t next_length, uint32_t *names, size_t names_length,
                        uint32_t *defs, size_t defs_length, uint32_t *marks, size_t marks_length,
@@ -211,8 +235,9 @@ void matticklet_import(const uint8_t *text, size_t text_length, uint32_t *heads,
                        uint32_t *rights, size_t rights_length, uint32_t *order, size_t order_length,
                        uint32_t *ring, size_t ring_length, uint32_t *shown, size_t shown_length,
                        struct matticklet_import *answer, uint32_t chances[MATTICKLET_EVENTS],
-                       uint8_t kinds[MATTICKLET_GATES], uint8_t leasts[MATTICKLET_GATES],
-                       uint8_t sizes[MATTICKLET_GATES], uint16_t inputs[MATTICKLET_INPUTS]);
+                       uint16_t sites[MATTICKLET_EVENTS], uint8_t kinds[MATTICKLET_GATES],
+                       uint8_t leasts[MATTICKLET_GATES], uint8_t sizes[MATTICKLET_GATES],
+                       uint16_t inputs[MATTICKLET_INPUTS]);
 
 struct matticklet_export {
     uint64_t number; /* 0, 2 to 8 as the tree's bytes would get, or 9 */
@@ -221,13 +246,15 @@ struct matticklet_export {
 };
 
 /* Types a tree to the front of room, a line for each gate and then one for each event, also where its chance is 0: event 0 is e0, gate 0 is g0, and a
- * gate of one input is x = y whatever its kind. Refused as matticklet_write would be, then with 9 where the room is shorter than the text. Any values
- * may stand in the arrays, and counts may exceed them. The room behind the text stays as it was; a refusal leaves all of it so. A room of
+ * gate of one input is x = y whatever its kind. Equations have no sites: a tree of the new form is typed as its old form would be, whatever its sites.
+ * Refused with 2 to 8 as matticklet_write would be, never with 22, then with 9 where the room is shorter than the text. Any values may stand in the
+ * arrays, and counts may exceed them. The room behind the text stays as it was; a refusal leaves all of it so. A room of
  * MATTICKLET_TEXT_BYTES is enough for any tree. */
-void matticklet_export(size_t events, size_t gates, const uint32_t chances[MATTICKLET_EVENTS],
-                       const uint8_t kinds[MATTICKLET_GATES], const uint8_t leasts[MATTICKLET_GATES],
-                       const uint8_t sizes[MATTICKLET_GATES], const uint16_t inputs[MATTICKLET_INPUTS],
-                       uint8_t *room, size_t room_length, struct matticklet_export *answer);
+void matticklet_export(size_t events, size_t gates, bool sited, const uint32_t chances[MATTICKLET_EVENTS],
+                       const uint16_t sites[MATTICKLET_EVENTS], const uint8_t kinds[MATTICKLET_GATES],
+                       const uint8_t leasts[MATTICKLET_GATES], const uint8_t sizes[MATTICKLET_GATES],
+                       const uint16_t inputs[MATTICKLET_INPUTS], uint8_t *room, size_t room_length,
+                       struct matticklet_export *answer);
 
 /* Cuts by size. */
 

@@ -20,6 +20,7 @@ static const uint8_t tree[] = {
 static uint32_t nodes[3 * NODES], cuts[3 * CUTS], gates[MATTICKLET_GATES], added[MATTICKLET_GATES], memo[MEMO];
 static uint32_t heads[AREA], next[AREA], marks[AREA], own[AREA];
 static uint32_t chances[MATTICKLET_EVENTS];
+static uint16_t sites[MATTICKLET_EVENTS];
 static uint8_t kinds[MATTICKLET_GATES], leasts[MATTICKLET_GATES], sizes[MATTICKLET_GATES];
 static uint16_t inputs[MATTICKLET_INPUTS];
 
@@ -40,7 +41,7 @@ static void print_cuts(const uint8_t *room, uint64_t used)
 int main(void)
 {
     struct matticklet_reading reading;
-    matticklet_read(tree, sizeof tree, &reading, chances, kinds, leasts, sizes, inputs);
+    matticklet_read(tree, sizeof tree, &reading, chances, sites, kinds, leasts, sizes, inputs);
     struct matticklet_analysis a;
     matticklet_analyse(tree, sizeof tree, nodes, 3 * NODES, cuts, 3 * CUTS, gates, MATTICKLET_GATES, added, MATTICKLET_GATES,
                        memo, MEMO, heads, AREA, next, AREA, marks, AREA, own, AREA, &a);

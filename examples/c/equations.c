@@ -14,6 +14,7 @@ static uint32_t lists[LISTS][TEXT + 1];
 static uint32_t nodes[3 * NODES], cuts[3 * NODES], gates[MATTICKLET_GATES], added[MATTICKLET_GATES], memo[MEMO];
 static uint32_t heads[AREA], next[AREA], marks[AREA], own[AREA];
 static uint32_t chances[MATTICKLET_EVENTS];
+static uint16_t sites[MATTICKLET_EVENTS];
 static uint8_t kinds[MATTICKLET_GATES], leasts[MATTICKLET_GATES], sizes[MATTICKLET_GATES];
 static uint16_t inputs[MATTICKLET_INPUTS];
 
@@ -79,14 +80,14 @@ int main(void)
     size_t length = fread(text, 1, TEXT, stdin), most = TEXT + 1;
     struct matticklet_import m;
     matticklet_import(text, length, lists[0], most, lists[1], most, lists[2], most, lists[3], most, lists[4], most, lists[5], most,
-                      lists[6], most, lists[7], most, lists[8], most, lists[9], most, lists[10], most, &m, chances, kinds, leasts,
-                      sizes, inputs);
+                      lists[6], most, lists[7], most, lists[8], most, lists[9], most, lists[10], most, &m, chances, sites, kinds,
+                      leasts, sizes, inputs);
     const uint32_t *ring = lists[9], *shown = lists[10];
     if (m.number != MATTICKLET_DONE)
         return refuse(&m, ring);
 
     struct matticklet_writing w;
-    matticklet_write(m.events, m.gates, chances, kinds, leasts, sizes, inputs, bytes, sizeof bytes, &w);
+    matticklet_write(m.events, m.gates, false, chances, sites, kinds, leasts, sizes, inputs, bytes, sizeof bytes, &w);
     struct matticklet_analysis a;
     matticklet_analyse(bytes, w.bytes, nodes, 3 * NODES, cuts, 3 * NODES, gates, MATTICKLET_GATES, added, MATTICKLET_GATES, memo,
                        MEMO, heads, AREA, next, AREA, marks, AREA, own, AREA, &a);

@@ -16,7 +16,7 @@
 enum { GUARD = 72, AREAS = 24 }; /* no area is aligned beyond its need */
 enum { GUARDS_STAND = 1, CONST_AREAS_STAND = 2 };
 enum { READ = 1, WRITE = 2, ANALYSE = 3, LIST = 4, BRACKET = 5, IMPORT = 6, EXPORT = 7, SIZES = 8, FOLDER = 9 };
-enum { SIDE = 10, FIRST_DIFFERENCE = 11, COMPARE = 12 };
+enum { SIDE = 10, FIRST_DIFFERENCE = 11, COMPARE = 12, TO_SITES = 13, FROM_SITES = 14 };
 enum { LISTS = 11, RING = 9 }; /* of an import, in the header's order */
 
 struct area {
@@ -138,27 +138,54 @@ static void reply(struct area *answer, struct area **written, int count)
 
 static void read_call(void)
 {
-    struct area *bytes = area(1), *chances = area(4), *kinds = area(1), *leasts = area(1), *sizes = area(1), *inputs = area(2);
-    struct area *answer = answer_area(4);
+    struct area *bytes = area(1), *chances = area(4), *sites = area(2);
+    struct area *kinds = area(1), *leasts = area(1), *sizes = area(1), *inputs = area(2);
+    struct area *answer = answer_area(5);
     struct matticklet_reading *a = contents(answer);
-    matticklet_read(contents(bytes), bytes->length, a, contents(chances), contents(kinds), contents(leasts), contents(sizes),
-                    contents(inputs));
+    matticklet_read(contents(bytes), bytes->length, a, contents(chances), contents(sites), contents(kinds), contents(leasts),
+                    contents(sizes), contents(inputs));
     if (spoiled == READ && a->number == MATTICKLET_DONE && a->gates == 2)
         ((uint16_t *)contents(inputs))[MATTICKLET_INPUTS - 1] ^= 1; /* not zero behind the tree */
-    struct area *written[] = { chances, kinds, leasts, sizes, inputs };
-    reply(answer, written, 5);
+    struct area *written[] = { chances, sites, kinds, leasts, sizes, inputs };
+    reply(answer, written, 6);
 }
 
 static void write_call(void)
 {
     size_t events = number(), gates = number();
-    struct area *chances = area(4), *kinds = area(1), *leasts = area(1), *sizes = area(1), *inputs = area(2), *room = area(1);
+    bool sited = number() == 1;
+    struct area *chances = area(4), *sites = area(2);
+    struct area *kinds = area(1), *leasts = area(1), *sizes = area(1), *inputs = area(2), *room = area(1);
     struct area *answer = answer_area(3);
     struct matticklet_writing *a = contents(answer);
-    matticklet_write(events, gates, contents(chances), contents(kinds), contents(leasts), contents(sizes), contents(inputs),
-                     contents(room), room->length, a);
+    matticklet_write(events, gates, sited, contents(chances), contents(sites), contents(kinds), contents(leasts), contents(sizes),
+                     contents(inputs), contents(room), room->length, a);
     if (spoiled == WRITE && a->number == MATTICKLET_LENGTH && room->length > 5)
         ((uint8_t *)contents(room))[0] = 1; /* a refusal that writes */
+    struct area *written[] = { room };
+    reply(answer, written, 1);
+}
+
+static void to_sites_call(void)
+{
+    struct area *bytes = area(1), *room = area(1);
+    struct area *answer = answer_area(3);
+    struct matticklet_move *a = contents(answer);
+    matticklet_to_sites(contents(bytes), bytes->length, contents(room), room->length, a);
+    if (spoiled == TO_SITES && a->number == MATTICKLET_DONE && room->length > a->bytes)
+        ((uint8_t *)contents(room))[a->bytes] ^= 1; /* behind the tree */
+    struct area *written[] = { room };
+    reply(answer, written, 1);
+}
+
+static void from_sites_call(void)
+{
+    struct area *bytes = area(1), *room = area(1);
+    struct area *answer = answer_area(3);
+    struct matticklet_move *a = contents(answer);
+    matticklet_from_sites(contents(bytes), bytes->length, contents(room), room->length, a);
+    if (spoiled == FROM_SITES && a->number == MATTICKLET_SITED && room->length > 0)
+        ((uint8_t *)contents(room))[0] ^= 1; /* a refusal that writes */
     struct area *written[] = { room };
     reply(answer, written, 1);
 }
@@ -214,7 +241,7 @@ static void import_call(void)
     struct area *text = area(1), *list[LISTS];
     for (int k = 0; k < LISTS; k++)
         list[k] = area(4);
-    struct area *chances = area(4), *kinds = area(1), *leasts = area(1), *sizes = area(1), *inputs = area(2);
+    struct area *chances = area(4), *sites = area(2), *kinds = area(1), *leasts = area(1), *sizes = area(1), *inputs = area(2);
     struct area *answer = answer_area(6);
     struct matticklet_import *a = contents(answer);
     uint32_t *ring = contents(list[RING]);
@@ -222,22 +249,24 @@ static void import_call(void)
                       contents(list[2]), list[2]->length, contents(list[3]), list[3]->length, contents(list[4]), list[4]->length,
                       contents(list[5]), list[5]->length, contents(list[6]), list[6]->length, contents(list[7]), list[7]->length,
                       contents(list[8]), list[8]->length, ring, list[RING]->length, contents(list[10]), list[10]->length, a,
-                      contents(chances), contents(kinds), contents(leasts), contents(sizes), contents(inputs));
+                      contents(chances), contents(sites), contents(kinds), contents(leasts), contents(sizes), contents(inputs));
     if (spoiled == IMPORT && a->number == MATTICKLET_RING && a->ring > 1)
         ring[0] = ring[1]; /* a line twice: no longer a ring */
     struct area *written[] = { list[0], list[1], list[2], list[3], list[4], list[5], list[6], list[7], list[8], list[9], list[10],
-                               chances, kinds, leasts, sizes, inputs };
-    reply(answer, written, LISTS + 5);
+                               chances, sites, kinds, leasts, sizes, inputs };
+    reply(answer, written, LISTS + 6);
 }
 
 static void export_call(void)
 {
     size_t events = number(), gates = number();
-    struct area *chances = area(4), *kinds = area(1), *leasts = area(1), *sizes = area(1), *inputs = area(2), *room = area(1);
+    bool sited = number() == 1;
+    struct area *chances = area(4), *sites = area(2);
+    struct area *kinds = area(1), *leasts = area(1), *sizes = area(1), *inputs = area(2), *room = area(1);
     struct area *answer = answer_area(3);
     struct matticklet_export *a = contents(answer);
-    matticklet_export(events, gates, contents(chances), contents(kinds), contents(leasts), contents(sizes), contents(inputs),
-                      contents(room), room->length, a);
+    matticklet_export(events, gates, sited, contents(chances), contents(sites), contents(kinds), contents(leasts),
+                      contents(sizes), contents(inputs), contents(room), room->length, a);
     if (spoiled == EXPORT && a->number == MATTICKLET_DONE && gates == 3)
         ((uint8_t *)contents(kinds))[MATTICKLET_GATES - 1] ^= 1; /* an area that is only lent to be read */
     struct area *written[] = { room };
@@ -331,6 +360,8 @@ int main(int words, char **word)
         case SIDE: side_call(); break;
         case FIRST_DIFFERENCE: first_difference_call(); break;
         case COMPARE: compare_call(); break;
+        case TO_SITES: to_sites_call(); break;
+        case FROM_SITES: from_sites_call(); break;
         default: fail("no such call");
         }
         if (fflush(stdout) != 0)

@@ -11,7 +11,7 @@ use Rattle.records.specs.Judge.{Outcome, accept, refuse, outcome}
 use Rattle.records.specs.Memory.{inMemory}
 use Rattle.records.specs.Trees.{treeOf, treeIn}
 use Rattle.rules.specs.declared.Answer.{Answer}
-use Rattle.rules.specs.declared.Answer.the-variants.{Done, Cut, UnknownKind, OutOfPlace, Count, Threshold, Reference, Chance, Unused, Room, Narrow}
+use Rattle.rules.specs.declared.Answer.the-variants.{Done, Cut, UnknownKind, OutOfPlace, Count, Threshold, Reference, Chance, Unused, Room, Narrow, Sited}
 use Rattle.records.specs.declared.Reading.{Reading}
 use Rattle.trees.proofs.Promises.{Good, done-is-good}
 use Rattle.memory.specs.Memory.{Memory, Lengths}
@@ -35,6 +35,7 @@ done-of (Chance p) e = absurd (omega arith)
 done-of (Unused p) e = absurd (omega arith)
 done-of Room e = absurd (omega arith)
 done-of (Narrow p) e = absurd (omega arith)
+done-of (Sited p) e = absurd (omega arith)
 
 module _ (bytes : List ℕ) {r : Reading} (e : r ≡ inMemory (outcome limits bytes)) where
   -- 1 to 8 or 21: the reading's own number and place

@@ -8,18 +8,18 @@ use lib.ListN.{length}
 use lib.Dec.{ltb}
 use Rattle.paper.specs.Limits.{limits}
 use Rattle.rules.specs.Answers.{verdict}
-use Rattle.records.specs.Judge.{Outcome, accept, refuse, outcome}
+use Rattle.records.specs.Judge.{Outcome, accept, refuse}
 use Rattle.judging.specs.Bytes.{bytesOf}
-use Rattle.writing.specs.Writes.{Wrote, wrote, writeOf}
+use Rattle.writing.specs.Writes.{Wrote, wrote, writtenAs, writeOf}
 use Rattle.analyser.specs.Verdicts.{judgeWriting}
 use Rattle.rules.specs.declared.Answer.{Answer}
 use Rattle.records.specs.declared.Tree.{Tree}
 
 written-verdict : (t : Tree) (room : List ℕ) → verdict (writeOf limits t room .answer) ≡ judgeWriting limits t room
 unfolding writeOf judgeWriting
-written-verdict t room = go (outcome limits (bytesOf t)) (ltb (length room) (length (bytesOf t))) refl refl
+written-verdict t room = go (writtenAs limits t) (ltb (length room) (length (bytesOf t))) refl refl
   where
-    go : (o : Outcome) (b : Bool) → outcome limits (bytesOf t) ≡ o → ltb (length room) (length (bytesOf t)) ≡ b → verdict (writeOf limits t room .answer) ≡ judgeWriting limits t room
+    go : (o : Outcome) (b : Bool) → writtenAs limits t ≡ o → ltb (length room) (length (bytesOf t)) ≡ b → verdict (writeOf limits t room .answer) ≡ judgeWriting limits t room
     go (accept x) true p q = rw (writeOf, judgeWriting, p, q) refl
     go (accept x) false p q = rw (writeOf, judgeWriting, p, q) refl
     go (refuse a) b p q = rw (writeOf, judgeWriting, p) refl

@@ -8,15 +8,16 @@ use Rattle.paper.specs.Answers.{Verdict}
 use Rattle.paper.specs.Limits.{Limits}
 use Rattle.rules.specs.Answers.{verdict}
 use Rattle.rules.specs.Choice.{if_then_else_}
-use Rattle.records.specs.Judge.{accept, refuse, outcome}
+use Rattle.records.specs.Judge.{accept, refuse}
 use Rattle.judging.specs.Bytes.{bytesOf}
+use Rattle.writing.specs.Writes.{writtenAs}
 use Rattle.rules.specs.declared.Answer.the-variants.{Done, Room}
 use Rattle.records.specs.declared.Tree.{Tree}
 
--- as the tree's bytes would be refused, then 9 if the room is shorter than they are
+-- as the tree's bytes would be refused, then 22 if they have no place for an event's site, then 9 if the room is shorter than they are
 unfoldable pub judgeWriting : Limits → Tree → List ℕ → Verdict
 judgeWriting L t room =
-    elim (outcome L (bytesOf t)) [
+    elim (writtenAs L t) [
       | accept b ↦ if ltb (length room) (length (bytesOf t)) then verdict Room else verdict Done
       | refuse a ↦ verdict a
     ]

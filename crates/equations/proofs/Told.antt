@@ -18,8 +18,9 @@ use Rattle.records.specs.Memory.{pad, memory, tabulate, noEvent}
 use Rattle.records.specs.Trees.{Lawful, treeOf, treeIn}
 use Rattle.records.specs.declared.Event.{Event}
 use Rattle.records.specs.declared.Tree.{Tree}
+use Rattle.records.proofs.Lists.{map-append}
 use Rattle.records.proofs.Pad.{pad-take, pad-length}
-use Rattle.judging.specs.Bytes.{bytesOf, toldLeast, told}
+use Rattle.judging.specs.Bytes.{bytesOf, heldEvent, toldLeast, toldEvent, told}
 use Rattle.trees.proofs.Lawful.{lawful}
 use Rattle.trees.proofs.ReadBack.{read-told}
 use Rattle.trees.proofs.Exactly.{lawful-read-back}
@@ -54,6 +55,11 @@ module _ {A : Type 0} where
 
   pad-same : (n : ℕ) (z : A) (xs ys : List A) → length xs ≡ length ys → pad n z xs ≡ pad n z ys → xs ≡ ys
   pad-same n z xs ys h p = sym (pad-take n z xs) ∙ ap (take (length xs)) p ∙ ap (λ (k : ℕ). take k (pad n z ys)) h ∙ pad-take n z ys
+
+map-table : {A B : Type 0} (f : A → B) (n : ℕ) (g : ℕ → A) → map f (tabulate n g) ≡ tabulate n (λ i. f (g i))
+unfolding tabulate
+map-table f zero g = refl
+map-table f (suc n) g = map-append f (tabulate n g) (g n ∷ []) ∙ ap (λ m. m ++ (f (g n) ∷ [])) (map-table f n g)
 
 -- ---- gates that agree one by one, on the inputs that they want
 
@@ -93,7 +99,7 @@ module _ (t : Tree) (b : Book) (e : outcome limits (bytesOf t) ≡ accept b) whe
   unfolding memory told
   gates-count = ap (λ (x : Tree). x .«gate_count») (read-told t b e)
 
-  events-told : b .events ≡ tabulate (t .«event_count») (λ i. getD (t .events) i noEvent)
+  events-told : b .events ≡ tabulate (t .«event_count») (λ i. toldEvent (t .sited) (heldEvent t i))
   unfolding memory told
   events-told = pad-same (limits .events) noEvent (b .events) _ (events-count ∙ sym (table-long (t .«event_count») _)) (ap (λ (x : Tree). x .events) (read-told t b e))
 
@@ -137,8 +143,13 @@ module _ (t : Tree) (b : Book) (e : outcome limits (bytesOf t) ≡ accept b) whe
     inputs-are : b .inputs ≡ take wanted (t .inputs)
     inputs-are = inputs-told ∙ table-is wanted (t .inputs) 0 (omega (arith, inputs-count, kept .fewInputs, s .inputs))
 
-    events-are : b .events ≡ take (t .«event_count») (t .events)
-    events-are = events-told ∙ table-is (t .«event_count») (t .events) noEvent (omega (arith, events-count, kept .fewEvents, s .events))
+    -- an event's record has its chance, whatever it has of its site
+    chances-are : map (λ (x : Event). x .chance) (b .events) ≡ map (λ (x : Event). x .chance) (take (t .«event_count») (t .events))
+    chances-are =
+        ap (map (λ (x : Event). x .chance)) events-told
+        ∙ map-table (λ (x : Event). x .chance) (t .«event_count») (λ i. toldEvent (t .sited) (heldEvent t i))
+        ∙ sym (map-table (λ (x : Event). x .chance) (t .«event_count») (heldEvent t))
+        ∙ ap (map (λ (x : Event). x .chance)) (table-is (t .«event_count») (t .events) noEvent (omega (arith, events-count, kept .fewEvents, s .events)))
 
     inputs-split : t .inputs ≡ b .inputs ++ drop wanted (t .inputs)
     inputs-split = sym (take-append-drop wanted (t .inputs)) ∙ ap (λ (m : List ℕ). m ++ drop wanted (t .inputs)) (sym inputs-are)
@@ -152,7 +163,7 @@ module _ (t : Tree) (b : Book) (e : outcome limits (bytesOf t) ≡ accept b) whe
 
     same-chances : treeIn t .chances ≡ treeOf b .chances
     unfolding treeIn treeOf
-    same-chances = ap (map (λ (x : Event). x .chance)) (sym events-are)
+    same-chances = sym chances-are
 
     -- THE TREE IN MEMORY is the tree that its bytes say
     pub accepted-tree : treeIn t ≡ treeOf b

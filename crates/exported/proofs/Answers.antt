@@ -1,6 +1,6 @@
 -- From an answer of the product to the numbers in the answer's array, and to the arrays of a tree.
 -- Assumes nothing.
-use mathlib.Core.Path.{_≡_, refl, sym, ap, _∙_}
+use mathlib.Core.Path.{_≡_, refl, sym, ap, ap₂, _∙_}
 use mathlib.Core.Bool.{Bool, true, false, cond}
 use mathlib.Core.List.{List, [], _∷_, _++_}
 use Prim.Native.Nat.{ℕ}
@@ -15,46 +15,49 @@ use Rattle.rules.specs.declared.Answer.{Answer}
 use Rattle.records.specs.declared.Event.{Event}
 use Rattle.records.specs.declared.Reading.{Reading}
 use Rattle.records.specs.declared.Tree.{Tree}
-use Rattle.arrays.specs.Chances.{chancesOf, eventsOf}
+use Rattle.arrays.specs.Chances.{chancesOf, sitesOf, eventsOf}
 use Rattle.exported.specs.Arrays.{Arrays, arrays, arraysOf, treeFrom, filled, after}
 use Rattle.exported.specs.Numbers.{ofReading, ofWriting}
 
 -- ---- the arrays of a tree
 
 module _ (n : ℕ) (t : Tree) where
-  pub put-there : n ≡ 0 → {C : List ℕ} → C ≡ chancesOf (t .events) → (A : Arrays) → arrays C (t .kinds) (t .leasts) (t .sizes) (t .inputs) ≡ filled n t A
-  put-there z k A =
-      ap (λ c. arrays c (t .kinds) (t .leasts) (t .sizes) (t .inputs)) k
+  pub put-there : n ≡ 0 → {C : List ℕ} → C ≡ chancesOf (t .events) → {S : List ℕ} → S ≡ sitesOf (t .events) → (A : Arrays) → arrays C S (t .kinds) (t .leasts) (t .sizes) (t .inputs) ≡ filled n t A
+  put-there z k s A =
+      ap₂ (λ c d. arrays c d (t .kinds) (t .leasts) (t .sizes) (t .inputs)) k s
       ∙ sym (ap (λ b. cond b (arraysOf t) A) (eq-eqb n 0 z))
 
   pub kept-there : (n ≡ 0 → ⊥) → (A : Arrays) → A ≡ filled n t A
   kept-there h A = sym (ap (λ b. cond b (arraysOf t) A) (ne-eqb n 0 h))
 
-pub taken-from : (events gates : ℕ) (C K L N I : List ℕ) {E : List Event} → E ≡ eventsOf C
-    → record { events = E; «event_count» = events; kinds = K; leasts = L; sizes = N; «gate_count» = gates; inputs = I } ≡ treeFrom events gates (arrays C K L N I)
-taken-from events gates C K L N I e = ap (λ E. record { events = E; «event_count» = events; kinds = K; leasts = L; sizes = N; «gate_count» = gates; inputs = I }) e
+pub taken-from : (events gates : ℕ) (sited : Bool) (C S K L N I : List ℕ) {E : List Event} → E ≡ eventsOf C S
+    → record { events = E; «event_count» = events; sited = sited; kinds = K; leasts = L; sizes = N; «gate_count» = gates; inputs = I } ≡ treeFrom events gates sited (arrays C S K L N I)
+taken-from events gates sited C S K L N I e = ap (λ E. record { events = E; «event_count» = events; sited = sited; kinds = K; leasts = L; sizes = N; «gate_count» = gates; inputs = I }) e
 
 -- ---- numbers
-
-module _ (bytes : List ℕ) {r : Reading} (e : r ≡ inMemory (outcome limits bytes)) {n : ℕ} (q : n ≡ verdict (r .answer) .number) where
-  pub read-numbers : {p : ℕ} → p ≡ verdict (r .answer) .place
-      → n ∷ p ∷ r .tree .«event_count» ∷ r .tree .«gate_count» ∷ [] ≡ ofReading (inMemory (outcome limits bytes))
-  read-numbers s = rw (q, s) (ap ofReading e)
-
-  pub read-arrays : (A : Arrays) {A′ : Arrays} → A′ ≡ filled n (r .tree) A → A′ ≡ after (inMemory (outcome limits bytes)) A
-  read-arrays A f = f ∙ ap (λ m. filled m (r .tree) A) q ∙ ap (λ x. after x A) e
-
--- of a tree that is written, in either form
-pub written : (f : Tree → List ℕ → Wrote) (room : List ℕ) {t u : Tree} → t ≡ u → {a : Answer} {k : ℕ} {room′ : List ℕ} → wrote a k room′ ≡ f t room
-    → {n p : ℕ} → n ≡ verdict a .number → p ≡ verdict a .place → (n ∷ p ∷ k ∷ [] ≡ ofWriting (f u room)) × (room′ ≡ f u room .room)
-written f room e w q s =
-    let same = w ∙ ap (λ t. f t room) e in
-    (rw (q, s) (ap ofWriting same), ap (λ (x : Wrote). x .room) same)
 
 -- a flag as a number
 flag : (b : Bool) → boolByte b ≡ cond b 1 0
 flag true = refl
 flag false = refl
+
+module _ (bytes : List ℕ) {r : Reading} (e : r ≡ inMemory (outcome limits bytes)) {n : ℕ} (q : n ≡ verdict (r .answer) .number) where
+  pub read-numbers : {p : ℕ} → p ≡ verdict (r .answer) .place
+      → n ∷ p ∷ r .tree .«event_count» ∷ r .tree .«gate_count» ∷ boolByte (r .tree .sited) ∷ [] ≡ ofReading (inMemory (outcome limits bytes))
+  read-numbers s = rw (q, s, flag (r .tree .sited)) (ap ofReading e)
+
+  pub read-arrays : (A : Arrays) {A′ : Arrays} → A′ ≡ filled n (r .tree) A → A′ ≡ after (inMemory (outcome limits bytes)) A
+  read-arrays A f = f ∙ ap (λ m. filled m (r .tree) A) q ∙ ap (λ x. after x A) e
+
+-- of what was written
+pub told : {w : Wrote} {a : Answer} {k : ℕ} {room : List ℕ} → wrote a k room ≡ w
+    → {n p : ℕ} → n ≡ verdict a .number → p ≡ verdict a .place → (n ∷ p ∷ k ∷ [] ≡ ofWriting w) × (room ≡ w .room)
+told e q s = (rw (q, s) (ap ofWriting e), ap (λ (x : Wrote). x .room) e)
+
+-- of a tree that is written, in either form
+pub written : (f : Tree → List ℕ → Wrote) (room : List ℕ) {t u : Tree} → t ≡ u → {a : Answer} {k : ℕ} {room′ : List ℕ} → wrote a k room′ ≡ f t room
+    → {n p : ℕ} → n ≡ verdict a .number → p ≡ verdict a .place → (n ∷ p ∷ k ∷ [] ≡ ofWriting (f u room)) × (room′ ≡ f u room .room)
+written f room e w q s = told (w ∙ ap (λ t. f t room) e) q s
 
 pub listed : {number place count used : ℕ} (f : Bool) {last answer : List ℕ} → answer ≡ (number ∷ place ∷ count ∷ used ∷ boolByte f ∷ []) ++ last → answer ≡ number ∷ place ∷ count ∷ used ∷ cond f 1 0 ∷ last
 listed {number} {place} {count} {used} f {last} e = e ∙ ap (λ (x : ℕ). number ∷ place ∷ count ∷ used ∷ x ∷ last) (flag f)

@@ -1,31 +1,33 @@
--- A tree as five arrays of numbers: chances; each gate's kind, k and n; the inputs of all gates.
+-- A tree as six arrays of numbers: chances; sites; each gate's kind, k and n; the inputs of all gates.
 -- Assumes nothing.
-use mathlib.Core.Bool.{cond}
+use mathlib.Core.Bool.{Bool, cond}
 use mathlib.Core.List.{List}
 use Prim.Native.Nat.{ℕ}
 use lib.Dec.{eqb}
 use Rattle.rules.specs.Answers.{verdict}
 use Rattle.records.specs.declared.Reading.{Reading}
 use Rattle.records.specs.declared.Tree.{Tree}
-use Rattle.arrays.specs.Chances.{chancesOf, eventsOf}
+use Rattle.arrays.specs.Chances.{chancesOf, sitesOf, eventsOf}
 
 pub record Arrays : Type 0 where
   pub chances : List ℕ
+  pub sites : List ℕ
   pub kinds : List ℕ
   pub leasts : List ℕ
   pub sizes : List ℕ
   pub inputs : List ℕ
 
-abbrev pub arrays : List ℕ → List ℕ → List ℕ → List ℕ → List ℕ → Arrays
-arrays chances kinds leasts sizes inputs = record { chances = chances; kinds = kinds; leasts = leasts; sizes = sizes; inputs = inputs }
+abbrev pub arrays : List ℕ → List ℕ → List ℕ → List ℕ → List ℕ → List ℕ → Arrays
+arrays chances sites kinds leasts sizes inputs = record { chances = chances; sites = sites; kinds = kinds; leasts = leasts; sizes = sizes; inputs = inputs }
 
 abbrev pub arraysOf : Tree → Arrays
-arraysOf t = arrays (chancesOf (t .events)) (t .kinds) (t .leasts) (t .sizes) (t .inputs)
+arraysOf t = arrays (chancesOf (t .events)) (sitesOf (t .events)) (t .kinds) (t .leasts) (t .sizes) (t .inputs)
 
-abbrev pub treeFrom : ℕ → ℕ → Arrays → Tree
-treeFrom events gates a = record {
-  events = eventsOf (a .chances);
+abbrev pub treeFrom : ℕ → ℕ → Bool → Arrays → Tree
+treeFrom events gates sited a = record {
+  events = eventsOf (a .chances) (a .sites);
   «event_count» = events;
+  sited = sited;
   kinds = a .kinds;
   leasts = a .leasts;
   sizes = a .sizes;

@@ -14,7 +14,7 @@ use Rattle.sizes.specs.declared.Tally.{Tally}
 use Rattle.folder.specs.declared.Gathered.{Gathered}
 
 abbrev pub ofReading : Reading → List ℕ
-ofReading r = verdict (r .answer) .number ∷ verdict (r .answer) .place ∷ r .tree .«event_count» ∷ r .tree .«gate_count» ∷ []
+ofReading r = verdict (r .answer) .number ∷ verdict (r .answer) .place ∷ r .tree .«event_count» ∷ r .tree .«gate_count» ∷ cond (r .tree .sited) 1 0 ∷ []
 
 abbrev pub ofWriting : Wrote → List ℕ
 ofWriting w = verdict (w .answer) .number ∷ verdict (w .answer) .place ∷ w .bytes ∷ []

@@ -1,9 +1,10 @@
 // The product's calls for other languages: numbers, slices (a pointer, then a length) and arrays (a pointer), the answer in a lent array.
 mod ending; // an answer whose numbers end in the words of a set
 mod listings; // two listings compared
+mod moving; // a tree with sites, and without
 
-use arrays::chances_of;
 use arrays::events_of;
+use arrays::put_events;
 use paper::EVENTS;
 use paper::GATES;
 use paper::IN_ALL;
@@ -28,52 +29,58 @@ ghost use Rattle.sizes.specs.Counted.{Counted};
 ghost use Rattle.sizes.specs.declared.Tally.{Tally};
 ghost use Rattle.folder.specs.Contract.{lent, lends, Gathers};
 ghost use Rattle.folder.specs.declared.Gathered.{Gathered};
+ghost use Rattle.arrays.specs.Chances.{Blank};
 ghost use Rattle.exported.specs.Arrays.{arrays, treeFrom, filled, after};
 ghost use Rattle.exported.specs.Numbers.{ofReading, ofWriting, ofAnalysis, ofListing, ofBracket, ofImport, ofTally, ofGathered};
 
-// Puts a tree into five arrays where the number is 0.
+// Puts a tree, whose events are all zero from the count on, into six arrays where the number is 0.
 fn fill(
     number: u8,
+    count: usize,
     t: Tree,
     chances: &mut [u32; EVENTS],
+    sites: &mut [u16; EVENTS],
     kinds: &mut [u8; GATES],
     leasts: &mut [u8; GATES],
     sizes: &mut [u8; GATES],
     inputs: &mut [u16; IN_ALL],
 )
-    ensures { λ _. ⌜ arrays (now (chances .exit)) (now (kinds .exit)) (now (leasts .exit)) (now (sizes .exit)) (now (inputs .exit)) ≡ filled number t (arrays (now (chances .entry)) (now (kinds .entry)) (now (leasts .entry)) (now (sizes .entry)) (now (inputs .entry))) ⌝ }
+    requires { ⌜ Blank (t .events) count ⌝ }
+    ensures { λ _. ⌜ arrays (now (chances .exit)) (now (sites .exit)) (now (kinds .exit)) (now (leasts .exit)) (now (sizes .exit)) (now (inputs .exit)) ≡ filled number t (arrays (now (chances .entry)) (now (sites .entry)) (now (kinds .entry)) (now (leasts .entry)) (now (sizes .entry)) (now (inputs .entry))) ⌝ }
 {
     if number == 0 {
         let events = t.events;
-        let cs = chances_of(events);
+        put_events(events, count, chances, sites);
         let ks = t.kinds;
-        let ls = t.leasts;
-        let ns = t.sizes;
-        let is = t.inputs;
-        *chances = cs;
         *kinds = ks;
+        let ls = t.leasts;
         *leasts = ls;
+        let ns = t.sizes;
         *sizes = ns;
+        let is = t.inputs;
         *inputs = is;
     }
 }
 
-// The tree that is its two counts and five arrays.
+// The tree that is its two counts, its form and six arrays.
 fn tree_from(
     events: usize,
     gates: usize,
+    sited: bool,
     chances: &[u32; EVENTS],
+    sites: &[u16; EVENTS],
     kinds: &[u8; GATES],
     leasts: &[u8; GATES],
     sizes: &[u8; GATES],
     inputs: &[u16; IN_ALL],
 ) -> Tree
-    ensures { λ r. ⌜ r ≡ treeFrom events gates (arrays (now (chances .entry)) (now (kinds .entry)) (now (leasts .entry)) (now (sizes .entry)) (now (inputs .entry))) ⌝ }
+    ensures { λ r. ⌜ r ≡ treeFrom events gates sited (arrays (now (chances .entry)) (now (sites .entry)) (now (kinds .entry)) (now (leasts .entry)) (now (sizes .entry)) (now (inputs .entry))) ⌝ }
 {
-    let all = events_of(chances);
+    let all = events_of(chances, sites);
     Tree {
         events: all,
         event_count: events,
+        sited,
         kinds: *kinds,
         leasts: *leasts,
         sizes: *sizes,
@@ -82,21 +89,23 @@ fn tree_from(
     }
 }
 
-// Reads a tree into five arrays. The answer: number, place, events, gates. A refusal leaves the arrays as they are.
+// Reads a tree into six arrays. The answer: number, place, events, gates, and whether its records have sites. A refusal leaves the arrays as they are.
 #[no_mangle]
 pub extern "C" fn matticklet_read(
     bytes: &[u8],
-    answer: &mut [u64; 4],
+    answer: &mut [u64; 5],
     chances: &mut [u32; EVENTS],
+    sites: &mut [u16; EVENTS],
     kinds: &mut [u8; GATES],
     leasts: &mut [u8; GATES],
     sizes: &mut [u8; GATES],
     inputs: &mut [u16; IN_ALL],
 )
     ensures { λ _. ⌜ now (answer .exit) ≡ ofReading (inMemory (outcome limits (now (bytes .entry)))) ⌝ }
-    ensures { λ _. ⌜ arrays (now (chances .exit)) (now (kinds .exit)) (now (leasts .exit)) (now (sizes .exit)) (now (inputs .exit)) ≡ after (inMemory (outcome limits (now (bytes .entry)))) (arrays (now (chances .entry)) (now (kinds .entry)) (now (leasts .entry)) (now (sizes .entry)) (now (inputs .entry))) ⌝ }
+    ensures { λ _. ⌜ arrays (now (chances .exit)) (now (sites .exit)) (now (kinds .exit)) (now (leasts .exit)) (now (sizes .exit)) (now (inputs .exit)) ≡ after (inMemory (outcome limits (now (bytes .entry)))) (arrays (now (chances .entry)) (now (sites .entry)) (now (kinds .entry)) (now (leasts .entry)) (now (sizes .entry)) (now (inputs .entry))) ⌝ }
 {
-    let r = analyser::read(bytes);
+    // The analyser's own call would hand the tree on once more.
+    let r = records::read(bytes);
     let a = r.answer;
     let t = r.tree;
     let number = rules::number(a);
@@ -106,16 +115,29 @@ pub extern "C" fn matticklet_read(
         place as u64,
         t.event_count as u64,
         t.gate_count as u64,
+        t.sited as u64,
     ];
-    fill(number, t, chances, kinds, leasts, sizes, inputs);
+    fill(
+        number,
+        t.event_count,
+        t,
+        chances,
+        sites,
+        kinds,
+        leasts,
+        sizes,
+        inputs,
+    );
 }
 
-// Writes the bytes of the tree in five arrays to the front of room. The answer: number, place, bytes.
+// Writes the bytes of the tree in six arrays to the front of room. The answer: number, place, bytes.
 #[no_mangle]
 pub extern "C" fn matticklet_write(
     events: usize,
     gates: usize,
+    sited: bool,
     chances: &[u32; EVENTS],
+    sites: &[u16; EVENTS],
     kinds: &[u8; GATES],
     leasts: &[u8; GATES],
     sizes: &[u8; GATES],
@@ -123,10 +145,20 @@ pub extern "C" fn matticklet_write(
     room: &mut [u8],
     answer: &mut [u64; 3],
 )
-    ensures { λ _. ⌜ now (answer .exit) ≡ ofWriting (writeOf limits (treeFrom events gates (arrays (now (chances .entry)) (now (kinds .entry)) (now (leasts .entry)) (now (sizes .entry)) (now (inputs .entry)))) (now (room .entry))) ⌝ }
-    ensures { λ _. ⌜ now (room .exit) ≡ writeOf limits (treeFrom events gates (arrays (now (chances .entry)) (now (kinds .entry)) (now (leasts .entry)) (now (sizes .entry)) (now (inputs .entry)))) (now (room .entry)) .room ⌝ }
+    ensures { λ _. ⌜ now (answer .exit) ≡ ofWriting (writeOf limits (treeFrom events gates sited (arrays (now (chances .entry)) (now (sites .entry)) (now (kinds .entry)) (now (leasts .entry)) (now (sizes .entry)) (now (inputs .entry)))) (now (room .entry))) ⌝ }
+    ensures { λ _. ⌜ now (room .exit) ≡ writeOf limits (treeFrom events gates sited (arrays (now (chances .entry)) (now (sites .entry)) (now (kinds .entry)) (now (leasts .entry)) (now (sizes .entry)) (now (inputs .entry)))) (now (room .entry)) .room ⌝ }
 {
-    let tree = tree_from(events, gates, chances, kinds, leasts, sizes, inputs);
+    let tree = tree_from(
+        events,
+        gates,
+        sited,
+        chances,
+        sites,
+        kinds,
+        leasts,
+        sizes,
+        inputs,
+    );
     let w = analyser::write(tree, room);
     let a = w.answer;
     *answer = [
@@ -237,12 +269,13 @@ pub extern "C" fn matticklet_import(
     shown: &mut [u32],
     answer: &mut [u64; 6],
     chances: &mut [u32; EVENTS],
+    sites: &mut [u16; EVENTS],
     kinds: &mut [u8; GATES],
     leasts: &mut [u8; GATES],
     sizes: &mut [u8; GATES],
     inputs: &mut [u16; IN_ALL],
 )
-    ensures { λ _. ⌜ ((a : Imported) × (Imports (now (text .entry)) (lists (now (heads .entry)) (now (next .entry)) (now (names .entry)) (now (defs .entry)) (now (marks .entry)) (now (amounts .entry)) (now (starts .entry)) (now (rights .entry)) (now (order .entry)) (now (ring .entry)) (now (shown .entry))) (lists (now (heads .exit)) (now (next .exit)) (now (names .exit)) (now (defs .exit)) (now (marks .exit)) (now (amounts .exit)) (now (starts .exit)) (now (rights .exit)) (now (order .exit)) (now (ring .exit)) (now (shown .exit))) a × ((now (answer .exit) ≡ ofImport a) × (arrays (now (chances .exit)) (now (kinds .exit)) (now (leasts .exit)) (now (sizes .exit)) (now (inputs .exit)) ≡ filled (a .number) (a .tree) (arrays (now (chances .entry)) (now (kinds .entry)) (now (leasts .entry)) (now (sizes .entry)) (now (inputs .entry))))))) ⌝ }
+    ensures { λ _. ⌜ ((a : Imported) × (Imports (now (text .entry)) (lists (now (heads .entry)) (now (next .entry)) (now (names .entry)) (now (defs .entry)) (now (marks .entry)) (now (amounts .entry)) (now (starts .entry)) (now (rights .entry)) (now (order .entry)) (now (ring .entry)) (now (shown .entry))) (lists (now (heads .exit)) (now (next .exit)) (now (names .exit)) (now (defs .exit)) (now (marks .exit)) (now (amounts .exit)) (now (starts .exit)) (now (rights .exit)) (now (order .exit)) (now (ring .exit)) (now (shown .exit))) a × ((now (answer .exit) ≡ ofImport a) × (arrays (now (chances .exit)) (now (sites .exit)) (now (kinds .exit)) (now (leasts .exit)) (now (sizes .exit)) (now (inputs .exit)) ≡ filled (a .number) (a .tree) (arrays (now (chances .entry)) (now (sites .entry)) (now (kinds .entry)) (now (leasts .entry)) (now (sizes .entry)) (now (inputs .entry))))))) ⌝ }
 {
     let a = equations::import(
         text,
@@ -267,15 +300,27 @@ pub extern "C" fn matticklet_import(
         t.event_count as u64,
         t.gate_count as u64,
     ];
-    fill(a.number, t, chances, kinds, leasts, sizes, inputs);
+    fill(
+        a.number,
+        EVENTS,
+        t,
+        chances,
+        sites,
+        kinds,
+        leasts,
+        sizes,
+        inputs,
+    );
 }
 
-// Types the tree in five arrays to the front of room. The answer: number, place, bytes.
+// Types the tree in six arrays to the front of room. The answer: number, place, bytes.
 #[no_mangle]
 pub extern "C" fn matticklet_export(
     events: usize,
     gates: usize,
+    sited: bool,
     chances: &[u32; EVENTS],
+    sites: &[u16; EVENTS],
     kinds: &[u8; GATES],
     leasts: &[u8; GATES],
     sizes: &[u8; GATES],
@@ -283,10 +328,20 @@ pub extern "C" fn matticklet_export(
     room: &mut [u8],
     answer: &mut [u64; 3],
 )
-    ensures { λ _. ⌜ now (answer .exit) ≡ ofWriting (exportOf limits (treeFrom events gates (arrays (now (chances .entry)) (now (kinds .entry)) (now (leasts .entry)) (now (sizes .entry)) (now (inputs .entry)))) (now (room .entry))) ⌝ }
-    ensures { λ _. ⌜ now (room .exit) ≡ exportOf limits (treeFrom events gates (arrays (now (chances .entry)) (now (kinds .entry)) (now (leasts .entry)) (now (sizes .entry)) (now (inputs .entry)))) (now (room .entry)) .room ⌝ }
+    ensures { λ _. ⌜ now (answer .exit) ≡ ofWriting (exportOf limits (treeFrom events gates sited (arrays (now (chances .entry)) (now (sites .entry)) (now (kinds .entry)) (now (leasts .entry)) (now (sizes .entry)) (now (inputs .entry)))) (now (room .entry))) ⌝ }
+    ensures { λ _. ⌜ now (room .exit) ≡ exportOf limits (treeFrom events gates sited (arrays (now (chances .entry)) (now (sites .entry)) (now (kinds .entry)) (now (leasts .entry)) (now (sizes .entry)) (now (inputs .entry)))) (now (room .entry)) .room ⌝ }
 {
-    let tree = tree_from(events, gates, chances, kinds, leasts, sizes, inputs);
+    let tree = tree_from(
+        events,
+        gates,
+        sited,
+        chances,
+        sites,
+        kinds,
+        leasts,
+        sizes,
+        inputs,
+    );
     let w = equations::export(tree, room);
     let a = w.answer;
     *answer = [

@@ -1,6 +1,7 @@
 -- A record's bytes are read as that record, whatever follows them.
 -- Assumes nothing.
-use mathlib.Core.Path.{_≡_, refl, sym, ap, _∙_}
+use mathlib.Core.Path.{_≡_, refl, sym, ap, ap₂, _∙_}
+use Rattle.paper.specs.Limits.{limits}
 use mathlib.Core.Bool.{Bool, true, false}
 use mathlib.Core.List.{List, [], _∷_, _++_}
 use Prim.Native.Nat.{ℕ, _+_, _*_, _/_, _%_, _≤_}
@@ -10,14 +11,14 @@ use lib.Dec.{eqb}
 use lib.Seq.{drop-drop, drop-at}
 use lib.ListN.{drop}
 use Rattle.rules.specs.Choice.{if_then_else_}
-use Rattle.rules.specs.Format.{lengthOf, bodyOf, recordOf, widthOf, encode}
+use Rattle.rules.specs.Format.{lengthOf, eventIn, bodyOf, recordOf, widthOf, encode}
 use Rattle.judging.specs.Inner.{Own}
 use Rattle.rules.specs.declared.format.Record.{Record}
-use Rattle.rules.specs.declared.format.Record.the-variants.{Missing, Unknown, Short, Event, Gate, EventInput, GateInput, WideInput, End}
+use Rattle.rules.specs.declared.format.Record.the-variants.{Missing, Unknown, Short, Event, SitedEvent, Gate, EventInput, GateInput, WideInput, End}
 use Rattle.rules.proofs.Cases.{is-unknown, is-whole}
 
 -- the record of kind k, which is known and whose bytes are there
-whole : (b : List ℕ) (k : ℕ) → 1 ≤ lengthOf k → lengthOf k ≤ length (k ∷ b) → recordOf true (k ∷ b) ≡ bodyOf k (k ∷ b)
+whole : (b : List ℕ) (k : ℕ) → 1 ≤ lengthOf k → lengthOf k ≤ length (k ∷ b) → recordOf limits (k ∷ b) ≡ bodyOf k (k ∷ b)
 whole b k some h = sym (is-whole (k ∷ b) k refl (λ z. omega arith) (λ z. omega arith) h)
 
 pub own-unknown : Own Unknown
@@ -32,6 +33,17 @@ unfolding bodyOf
 own-event c rest =
     let e : c % 256 + 256 * (c / 256 % 256 + 256 * (c / 65536 % 256 + 256 * (c / 16777216))) ≡ c = omega arith in
     whole (c % 256 ∷ c / 256 % 256 ∷ c / 65536 % 256 ∷ c / 16777216 ∷ rest) 1 (omega arith) (omega arith) ∙ ap Event e
+
+pub own-sited : (c site : ℕ) → Own (SitedEvent c site)
+unfolding bodyOf
+own-sited c site rest =
+    let e : c % 256 + 256 * (c / 256 % 256 + 256 * (c / 65536 % 256 + 256 * (c / 16777216))) ≡ c = omega arith in
+    let q : site % 256 + 256 * (site / 256) ≡ site = omega arith in
+    whole (c % 256 ∷ c / 256 % 256 ∷ c / 65536 % 256 ∷ c / 16777216 ∷ site % 256 ∷ site / 256 ∷ rest) 0x11 (omega arith) (omega arith) ∙ ap₂ SitedEvent e q
+
+pub own-in : (sited : Bool) (c site : ℕ) → Own (eventIn sited c site)
+own-in true c site = own-sited c site
+own-in false c site = own-event c
 
 pub own-and : (n : ℕ) → Own (Gate 2 0 n)
 unfolding bodyOf
@@ -66,6 +78,7 @@ encode-width Missing = refl
 encode-width Short = refl
 encode-width Unknown = refl
 encode-width (Event c) = refl
+encode-width (SitedEvent c site) = refl
 encode-width (Gate kind k n) = go (eqb kind 4)
   where
     go : (b : Bool) → length (if b then (4 ∷ k ∷ n ∷ []) else (kind ∷ n ∷ [])) ≡ (if b then 3 else 2)

@@ -1,7 +1,7 @@
 -- The writing of a tree, followed record by record along the tree's bytes.
 -- Assumes nothing.
 use mathlib.Core.Path.{_≡_, refl, sym, ap, _∙_}
-use mathlib.Core.Bool.{true}
+use mathlib.Core.Bool.{Bool, true}
 use mathlib.Core.List.{List, [], _∷_, _++_}
 use Prim.Native.Nat.{ℕ, zero, _+_, _-_, _*_, _≤_, _<_}
 use native.Mathlib.Omega.{arith}
@@ -12,21 +12,21 @@ use Rattle.paper.specs.Limits.{limits}
 use Rattle.rules.specs.Format.{recordOf, widthOf, encode}
 use Rattle.rules.specs.Rules.{admitOf, stepOf}
 use Rattle.rules.specs.States.{begun, pastEvent, pastGate, pastInput}
-use Rattle.judging.specs.Bytes.{inputBytes, gateBytes, eventBytes, bytesOf, chanceAt, nextOf}
+use Rattle.judging.specs.Bytes.{inputBytes, gateBytes, eventBytes, bytesOf, heldEvent, nextOf}
 use Rattle.judging.specs.Inner.{Own, Within}
 use Rattle.rules.specs.declared.format.Record.{Record}
-use Rattle.rules.specs.declared.format.Record.the-variants.{Missing, Unknown, Short, Event, Gate, EventInput, GateInput, WideInput, End}
+use Rattle.rules.specs.declared.format.Record.the-variants.{Missing, Unknown, Short, Event, SitedEvent, Gate, EventInput, GateInput, WideInput, End}
 use Rattle.rules.specs.declared.judge.State.{State}
 use Rattle.records.specs.declared.Tree.{Tree}
-use Rattle.rules.proofs.Cases.{if-elim, ≤-or, gate-small}
+use Rattle.rules.proofs.Cases.{if-elim, ≤-or, gate-small, event-width, event-small}
 use Rattle.rules.proofs.Steps.{OnEvent, OnGate, OnInput, input-small}
 use Rattle.judging.proofs.Coding.{own-end, encode-width, cut}
-use Rattle.judging.proofs.Rest.{next-within, eventRecord, gateRecordAt, inputRecordAt, nextRecord, restAt, rest-event, rest-input, rest-gate, rest-end, tag, which, is-event, is-gate, is-end, gate-told}
+use Rattle.judging.proofs.Rest.{next-within, eventRecord, gateRecordAt, inputRecordAt, nextRecord, restAt, rest-event, rest-input, rest-gate, rest-end, tag, tag-in, which, is-event, is-gate, is-end, gate-told}
 
 pub record Following (t : Tree) (bytes : List ℕ) (s : State) : Type 0 where
   pub rest : drop (s .at) bytes ≡ restAt t (s .events) (s .gates) (s .inputs) (s .left)
   pub early : s .events < t .«event_count» → (s .gates ≡ 0) × (s .inputs ≡ 0) × (s .left ≡ 0)
-  pub low : s .at ≤ 5 * s .events + 3 * s .gates + 3 * s .inputs
+  pub low : s .at ≤ 7 * s .events + 3 * s .gates + 3 * s .inputs
 
 pub follow-start : (t : Tree) → Following t (bytesOf t) begun
 unfolding bytesOf restAt eventBytes inputBytes gateBytes
@@ -52,16 +52,16 @@ module _ {t : Tree} {bytes : List ℕ} {s : State} (f : Following t bytes s) whe
       (λ h none more. (restAt t (s .events) (s .gates + 1) (s .inputs) (getD (t .sizes) (s .gates) 0), f .rest ∙ rest-gate t _ _ _ _ h none more))
       (λ h none all. ([], f .rest ∙ rest-end t _ _ _ _ h none all))
 
-  -- the chance is that of the event, where the array has it
+  -- the event is the one that comes next, where the array has it
   pub next-is : {r : Record} {j : ℕ} → Within (s .events) j
-      → r ≡ nextOf (t .«event_count») (t .«gate_count») (chanceAt t j) (t .kinds) (t .leasts) (t .sizes) (t .inputs) s → r ≡ nextRecord t s
+      → r ≡ nextOf (t .«event_count») (t .«gate_count») (t .sited) (heldEvent t j) (t .kinds) (t .leasts) (t .sizes) (t .inputs) s → r ≡ nextRecord t s
   next-is {r} {j} w e = e ∙ next-within t s j w
 
   module _ {r : Record} (e : r ≡ nextRecord t s) where
     pub starts-with : (xs : List ℕ) × (drop (s .at) bytes ≡ encode r ++ xs)
     starts-with = rw e starts
 
-    pub read-back : Own r → recordOf true (drop (s .at) bytes) ≡ r
+    pub read-back : Own r → recordOf limits (drop (s .at) bytes) ≡ r
     read-back own = let (xs, q) = starts-with in rw q (own xs)
 
     pub room-for : s .at ≤ length bytes → s .at + widthOf r ≤ length bytes
@@ -75,15 +75,15 @@ module _ {t : Tree} {bytes : List ℕ} {s : State} (f : Following t bytes s) whe
     pub end-length : r ≡ End → length bytes ≡ s .at + 1
     end-length q = omega (arith, ap length (ends q), length-drop (s .at) bytes)
 
-    pub at-event : {len next c : ℕ} → OnEvent len s r c next → r ≡ eventRecord t (s .events)
-    at-event on = let h : s .events < t .«event_count» = is-event t s (ap tag (sym e ∙ on .shape)) in e ∙ rw (lt-ltb _ _ h)
+    pub at-event : {len next c site : ℕ} {sited : Bool} → OnEvent len s r c site sited next → r ≡ eventRecord t (s .events)
+    at-event {c = c} {site = site} {sited = sited} on = let h : s .events < t .«event_count» = is-event t s (ap tag (sym e ∙ on .shape) ∙ tag-in sited c site) in e ∙ rw (lt-ltb _ _ h)
 
-    pub follow-event : {len next c : ℕ} → OnEvent len s r c next
-        → Following t bytes (pastEvent s next)
-    follow-event on =
-        let h : s .events < t .«event_count» = is-event t s (ap tag (sym e ∙ on .shape)) in
+    pub follow-event : {len next c site : ℕ} {sited : Bool} → OnEvent len s r c site sited next
+        → Following t bytes (pastEvent s sited next)
+    follow-event {c = c} {site = site} {sited = sited} on =
+        let h : s .events < t .«event_count» = is-event t s (ap tag (sym e ∙ on .shape) ∙ tag-in sited c site) in
         let (zg, zi, zl) = f .early h in
-        let five : widthOf r ≡ 5 = ap widthOf (on .shape) in
+        let small : widthOf r ≤ 7 = rw (on .shape, event-width sited c site) (event-small sited .1) in
         record {
           rest = rw (on .place) (cut bytes (s .at) r _ (f .rest ∙ rest-event t _ _ _ _ h zg zi zl ∙ rw (at-event on)));
           early = λ _. (zg, zi, zl);
@@ -133,6 +133,7 @@ module _ {t : Tree} {bytes : List ℕ} {s : State} (f : Following t bytes s) whe
         go Short o h = refl
         go Unknown o h = refl
         go (Event c) o h = refl
+        go (SitedEvent c site) o h = refl
         go (Gate kind k n) o h = refl
         go (EventInput i) o h = refl
         go (GateInput g) o h = refl

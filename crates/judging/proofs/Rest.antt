@@ -1,6 +1,7 @@
 -- The bytes of a tree from a state of the writing on, and how a record takes them further.
 -- Assumes nothing.
 use mathlib.Core.Path.{_≡_, refl, sym, ap, _∙_}
+use mathlib.Core.Bool.{Bool, true, false}
 use mathlib.Core.List.{List, _++_}
 use Prim.Native.Nat.{ℕ, zero, suc, _+_, _-_, _≤_, _<_}
 use native.Mathlib.Omega.{arith}
@@ -10,18 +11,19 @@ use borrow.Author.Tests.{ltb-true, ltb-false, lt-ltb, le-ltb, eqb-true}
 use Rattle.rules.specs.Choice.{if_then_else_}
 use Rattle.paper.specs.Limits.{limits, wideFrom}
 use Rattle.paper.specs.Flat.{gatesFrom}
-use Rattle.rules.specs.Format.{encode}
-use Rattle.judging.specs.Bytes.{eventAt, gateAt, inputAt, chanceAt, laterOf, nextOf, inputBytes, gateBytes, eventBytes, toldLeast}
+use Rattle.rules.specs.Format.{eventIn, encode}
+use Rattle.judging.specs.Bytes.{eventAt, gateAt, inputAt, heldEvent, laterOf, nextOf, inputBytes, gateBytes, eventBytes, toldLeast}
 use Rattle.judging.specs.Inner.{Within}
 use Rattle.rules.specs.declared.format.Record.{Record}
-use Rattle.rules.specs.declared.format.Record.the-variants.{Missing, Unknown, Short, Event, Gate, EventInput, GateInput, WideInput, End}
+use Rattle.rules.specs.declared.format.Record.the-variants.{Missing, Unknown, Short, Event, SitedEvent, Gate, EventInput, GateInput, WideInput, End}
 use Rattle.rules.specs.declared.judge.State.{State}
+use Rattle.records.specs.declared.Event.{Event as Held}
 use Rattle.records.specs.declared.Tree.{Tree}
 use Rattle.rules.proofs.Cases.{if-elim, either}
 
 -- the records of event e, of gate g and of input i of a tree, and the one that comes next
 abbrev pub eventRecord : Tree → ℕ → Record
-eventRecord t e = eventAt (chanceAt t e) e
+eventRecord t e = eventAt (t .sited) (heldEvent t e) e
 
 abbrev pub gateRecordAt : Tree → ℕ → Record
 gateRecordAt t g = gateAt (t .kinds) (t .leasts) (t .sizes) g
@@ -30,17 +32,17 @@ abbrev pub inputRecordAt : Tree → ℕ → Record
 inputRecordAt t i = inputAt (t .inputs) i
 
 abbrev pub nextRecord : Tree → State → Record
-nextRecord t s = nextOf (t .«event_count») (t .«gate_count») (chanceAt t (s .events)) (t .kinds) (t .leasts) (t .sizes) (t .inputs) s
+nextRecord t s = nextOf (t .«event_count») (t .«gate_count») (t .sited) (heldEvent t (s .events)) (t .kinds) (t .leasts) (t .sizes) (t .inputs) s
 
--- the chance does not matter behind the array
-same-chance : (c d e : ℕ) → (e < limits .events → c ≡ d) → eventAt c e ≡ eventAt d e
-same-chance c d e h = either (ltb e (limits .events)) (λ q. ap (λ (x : ℕ). eventAt x e) (h (ltb-true e (limits .events) q))) (λ q. rw q)
+-- the event does not matter behind the array
+same-event : (sited : Bool) (x y : Held) (e : ℕ) → (e < limits .events → x ≡ y) → eventAt sited x e ≡ eventAt sited y e
+same-event sited x y e h = either (ltb e (limits .events)) (λ q. ap (λ (z : Held). eventAt sited z e) (h (ltb-true e (limits .events) q))) (λ q. rw q)
 
 pub next-within : (t : Tree) (s : State) (j : ℕ) → Within (s .events) j
-    → nextOf (t .«event_count») (t .«gate_count») (chanceAt t j) (t .kinds) (t .leasts) (t .sizes) (t .inputs) s ≡ nextRecord t s
+    → nextOf (t .«event_count») (t .«gate_count») (t .sited) (heldEvent t j) (t .kinds) (t .leasts) (t .sizes) (t .inputs) s ≡ nextRecord t s
 next-within t s j w =
     ap (λ (r : Record). if ltb (s .events) (t .«event_count») then r else laterOf (t .«gate_count») (t .kinds) (t .leasts) (t .sizes) (t .inputs) s)
-    (same-chance (chanceAt t j) (chanceAt t (s .events)) (s .events) (λ h. ap (chanceAt t) (w .same h)))
+    (same-event (t .sited) (heldEvent t j) (heldEvent t (s .events)) (s .events) (λ h. ap (heldEvent t) (w .same h)))
 
 -- e events, g gates and i inputs are written, and l inputs of the last gate are left
 unfoldable pub restAt : Tree → ℕ → ℕ → ℕ → ℕ → List ℕ
@@ -85,6 +87,7 @@ abbrev pub tag : Record → ℕ
 tag Missing = 0
 tag Short = 0
 tag (Event c) = 1
+tag (SitedEvent c site) = 1
 tag Unknown = 2
 tag (Gate kind k n) = 2
 tag (EventInput e) = 3
@@ -92,9 +95,13 @@ tag (GateInput g) = 3
 tag (WideInput e) = 3
 tag End = 4
 
+pub tag-in : (sited : Bool) (c site : ℕ) → tag (eventIn sited c site) ≡ 1
+tag-in true c site = refl
+tag-in false c site = refl
+
 module _ (t : Tree) where
   tag-event : (i : ℕ) → tag (eventRecord t i) ≡ 1
-  tag-event i = if-elim (λ (r : Record). tag r ≡ 1) (ltb i (limits .events)) (λ _. refl) (λ _. refl)
+  tag-event i = if-elim (λ (r : Record). tag r ≡ 1) (ltb i (limits .events)) (λ _. tag-in (t .sited) _ _) (λ _. tag-in (t .sited) 0 0)
 
   tag-input : (i : ℕ) → tag (inputRecordAt t i) ≡ 3
   tag-input i =

@@ -33,8 +33,8 @@ use Rattle.records.proofs.Feeding.{input-gate, counted-input, starved-input, pl
 use Rattle.records.proofs.Closing.{closes-at, closes-none}
 use Rattle.records.proofs.Standing.{Arrays, arrays-event, arrays-gate, arrays-input, arrays-fronts}
 use Rattle.rules.proofs.Steps.{Sound}
-use Rattle.records.proofs.Runs.{Running, running-start, running-sound, running-event, running-gate, running-input, running-starved, running-close, running-refused}
-use Rattle.judging.proofs.Rest.{nextRecord, gateRecordAt, gate-told}
+use Rattle.records.proofs.Runs.{Running, running-start, running-sound, running-event, running-gate, running-input, running-starved, running-close, running-refused, running-bounded}
+use Rattle.judging.proofs.Rest.{nextRecord, gateRecordAt, gate-told, tag, is-end}
 use Rattle.judging.proofs.Following.{Following, follow-start, follow-step, follow-event, follow-gate, follow-input, at-gate, read-back, end-length}
 
 -- what the search leaves of the answer
@@ -54,6 +54,7 @@ refused-surveyed refused not d = record {
   answer = d ∙ ap answerOf (sym refused);
   bytes = λ z. absurd (not (sym d ∙ z));
   accepted = λ z. absurd (not (sym d ∙ z));
+  few = λ z. absurd (not (sym d ∙ z));
 }
 
 -- the last gate that was read has the kind of the tree's, and its k
@@ -103,12 +104,12 @@ module _ {t : Tree} {sizes places inputs : List ℕ} {s : State} (v : Surveying 
     pub survey-sound : {x : Step} → x ≡ admitOf limits (s .at + widthOf r) s r → Sound (length (bytesOf t)) s r x
     survey-sound q = rw (read-back (v .following) e own) at (running-sound (v .running) (survey-step q))
 
-    pub survey-event : (c next : ℕ) → AddEvent c next ≡ admitOf limits (s .at + widthOf r) s r → Surveying t sizes places inputs (pastEvent s next)
+    pub survey-event : (c site : ℕ) (sited : Bool) (next : ℕ) → AddEvent c site sited next ≡ admitOf limits (s .at + widthOf r) s r → Surveying t sizes places inputs (pastEvent s sited next)
     unfolding running-event
-    survey-event c next q = record {
-      running = running-event (v .running) c next (survey-step q);
+    survey-event c site sited next q = record {
+      running = running-event (v .running) c site sited next (survey-step q);
       following = follow-event (v .following) e (survey-sound q);
-      arrays = arrays-event (v .arrays) c next;
+      arrays = arrays-event (v .arrays) c site sited next;
       last = λ some. record { kind = v .last some .kind; least = v .last some .least };
     }
 
@@ -177,6 +178,7 @@ module _ {t : Tree} {sizes places inputs : List ℕ} {s : State} (v : Surveying 
             answer = sized-answer b f found (s .at + 1) a m sized ∙ ap answerOf (sym closed);
             bytes = λ d. sized-done b f found (s .at + 1) a m sized d .0 ∙ sym long;
             accepted = λ d. (b, closed ∙ sized-done b f found (s .at + 1) a m sized d .1);
+            few = λ d. omega (arith, is-end t s (ap tag (sym e ∙ survey-sound q .shape)), running-bounded (v .running));
           }
 
     pub survey-refused : (x : Answer) {a : Answer} {m : ℕ} → Refused x ≡ admitOf limits (s .at + widthOf r) s r → a ≡ x → Surveyed t a m

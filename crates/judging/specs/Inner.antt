@@ -1,5 +1,5 @@
 -- What the functions inside ask of their callers and tell them.
-use Prim.Native.Nat.{ℕ, _+_, _<_}
+use Prim.Native.Nat.{ℕ, _+_, _≤_, _<_}
 use mathlib.Core.Path.{_≡_}
 use mathlib.Core.Bool.{true}
 use mathlib.Core.List.{List, _++_}
@@ -22,7 +22,7 @@ pub record Within (n r : ℕ) : Type 0 where
 
 -- a record that is read as itself
 abbrev pub Own : Record → Type 0
-Own r = (rest : List ℕ) → recordOf true (encode r ++ rest) ≡ r
+Own r = (rest : List ℕ) → recordOf limits (encode r ++ rest) ≡ r
 
 -- the bytes of t are accepted
 abbrev pub Accepted : Tree → Type 0
@@ -38,3 +38,4 @@ pub record Surveyed (t : Tree) (a : Answer) (n : ℕ) : Type 0 where
   pub answer : a ≡ answerOf (outcome limits (bytesOf t))
   pub bytes : a ≡ Done → n ≡ length (bytesOf t)
   pub accepted : a ≡ Done → Accepted t
+  pub few : a ≡ Done → t .«event_count» ≤ limits .events

@@ -4,6 +4,7 @@ use paper::GATES;
 use paper::GATES_FROM;
 use paper::IN_ALL;
 use paper::WIDE_FROM;
+use records::Event;
 use records::Tree;
 use records::thresholds::starved;
 use records::uses::Found;
@@ -20,6 +21,7 @@ use rules::judge::past_gate;
 use rules::judge::past_input;
 ghost use mathlib.Core.Path.{_≡_};
 ghost use Prim.Native.Nat.{_<_};
+ghost use Rattle.rules.specs.Format.{eventIn};
 ghost use Rattle.judging.specs.Bytes.{inputRecord, gateRecord, nextOf};
 ghost use Rattle.rules.specs.States.{Bounded};
 ghost use Rattle.judging.specs.Inner.{Own, Within, Surveyed, Sized};
@@ -49,6 +51,16 @@ pub fn input_record(code: u16) -> Record
     Record::GateInput(code - GATES_FROM)
 }
 
+// The record of an event, with a site or without.
+pub fn event_record(sited: bool, chance: u32, site: u16) -> Record
+    ensures { λ r. ⌜ (r ≡ eventIn sited chance site) × Own r ⌝ }
+{
+    if sited {
+        return Record::SitedEvent(chance, site);
+    }
+    Record::Event(chance)
+}
+
 // The record of a gate.
 pub fn gate_record(kind: u8, k: u8, n: u8) -> Record
     ensures { λ r. ⌜ (r ≡ gateRecord kind k n) × Own r ⌝ }
@@ -71,12 +83,13 @@ pub fn within(n: usize) -> usize
     0
 }
 
-// The record of a tree that comes next at s; behind its arrays, an event of chance 0 or a gate of no input. `chance` is that
-// of event s.events.
+// The record of a tree that comes next at s; behind its arrays, an event of chance 0 or a gate of no input. `e` is event
+// s.events.
 pub fn tree_record<'a>(
     events: usize,
     gates: usize,
-    chance: u32,
+    sited: bool,
+    e: Event,
     kinds: &'a [u8; GATES],
     leasts: &'a [u8; GATES],
     sizes: &'a [u8; GATES],
@@ -84,15 +97,15 @@ pub fn tree_record<'a>(
     s: State,
 ) -> Record
     requires { ⌜ Bounded s ⌝ }
-    ensures { λ r. ⌜ (r ≡ nextOf events gates chance (now (kinds .entry)) (now (leasts .entry)) (now (sizes .entry)) (now (inputs .entry)) s) × Own r ⌝ }
+    ensures { λ r. ⌜ (r ≡ nextOf events gates sited e (now (kinds .entry)) (now (leasts .entry)) (now (sizes .entry)) (now (inputs .entry)) s) × Own r ⌝ }
 {
     let i = s.inputs;
     let g = s.gates;
     if s.events < events {
         if s.events < EVENTS {
-            return Record::Event(chance);
+            return event_record(sited, e.chance, e.site);
         }
-        return Record::Event(0);
+        return event_record(sited, 0, 0);
     }
     if 0 < s.left {
         return input_record(inputs[i]);
@@ -139,7 +152,8 @@ pub fn survey(t: Tree) -> Written
         let r = tree_record(
             t.event_count,
             t.gate_count,
-            e.chance,
+            t.sited,
+            e,
             &t.kinds,
             &t.leasts,
             &t.sizes,
@@ -147,7 +161,7 @@ pub fn survey(t: Tree) -> Written
             s,
         );
         match admit(s, at + width(r), r) {
-            Step::AddEvent(_, after) => s = past_event(s, after),
+            Step::AddEvent(_, _, sited, after) => s = past_event(s, sited, after),
             Step::AddGate(_, _, size, after) => {
                 sizes[g] = size;
                 places[g] = at;
@@ -161,7 +175,7 @@ pub fn survey(t: Tree) -> Written
                     return unwritten(Answer::Threshold(gate));
                 }
             }
-            Step::Close => return surveyed(unused_in(sizes, places, inputs, s), at + 1),
+            Step::Close => return surveyed(unused_in(&sizes, &places, &inputs, s), at + 1),
             Step::Refused(answer) => return unwritten(answer),
         }
     }

@@ -20,7 +20,7 @@ pub const GATES_FROM: u16 = EVENTS as u16;
 pub const WIDE_FROM: u16 = 256;
 
 // The most bytes that the program reads.
-pub const BYTES: usize = 20480;
+pub const BYTES: usize = 24576;
 
 // The most numbers of a table, three for each node.
 pub const TABLE: usize = 3000000;

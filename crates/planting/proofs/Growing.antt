@@ -236,6 +236,7 @@ module _ {S I : List ℕ} {n : ℕ} {Q : List ℕ} {left : ℕ} {N K L : List �
         tree = record {
           events = e .events;
           «event_count» = e .count;
+          sited = false;
           kinds = ks;
           leasts = ls;
           sizes = ns;
@@ -252,6 +253,7 @@ module _ {S I : List ℕ} {n : ℕ} {Q : List ℕ} {left : ℕ} {N K L : List �
         done = λ _ j. record {
           events = f .is j;
           «event_count» = (f .count ∙ sym (map-length eventOf C)) j;
+          sited = false;
           kinds = v .kinds j;
           leasts = v .leasts j;
           sizes = v .sizes j;

@@ -100,7 +100,7 @@ fn plant_events(
     requires { ⌜ Sowable (now starts) (now inputs) count (now order) left (now chances) ⌝ }
     ensures { λ r. ⌜ Sows (chancesAmong (now (starts .entry)) (now (inputs .entry)) (now (chances .entry)) (take left (now (order .entry)))) r ⌝ }
 {
-    let none = Event { chance: 0 };
+    let none = Event { chance: 0, site: 0 };
     let mut events = [none; EVENTS];
     let mut e: usize = 0;
     let mut i: usize = 0;
@@ -117,7 +117,7 @@ fn plant_events(
                     events: events,
                 };
             }
-            let mine = Event { chance };
+            let mine = Event { chance, site: 0 };
             events[e] = mine;
             e += 1;
         }
@@ -293,6 +293,7 @@ fn plant_gates(
     let tree = Tree {
         events,
         event_count: sown.count,
+        sited: false,
         kinds: ks,
         leasts: ls,
         sizes: ns,

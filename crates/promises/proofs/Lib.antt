@@ -14,4 +14,5 @@ pub mod OnTables
 pub mod Delivers
 pub mod BySize
 pub mod Old
+pub mod Sites
 pub mod Changed

@@ -2,7 +2,7 @@
 -- Assumes nothing.
 use mathlib.Core.Path.{_≡_, refl, sym, subst}
 use mathlib.Core.Logic.{_≢_, inl, inr}
-use mathlib.Core.Bool.{true}
+use mathlib.Core.Bool.{Bool, true, false}
 use mathlib.Core.List.{List}
 use Prim.Native.Nat.{ℕ, zero, suc, _+_, _≤_, _<_}
 use native.Mathlib.Omega.{arith}
@@ -12,12 +12,12 @@ use Rattle.paper.specs.Limits.{limits, wideFrom, billion}
 use Rattle.paper.specs.Answers.{OfReading}
 use Rattle.rules.specs.Answers.{verdict}
 use Rattle.rules.specs.Format.{recordOf}
-use Rattle.rules.specs.Rules.{admitOf, stepOf}
+use Rattle.rules.specs.Rules.{mixed, eventStep, admitOf, stepOf}
 use Rattle.records.specs.Judge.{Book, start, counts, addEvent, addGate, addInput, Outcome, accept, refuse, unusedBy, closeOf, nextStep, run, outcome}
 use Rattle.rules.specs.declared.Answer.{Answer}
 use Rattle.rules.specs.declared.Answer.the-variants.{Unused}
 use Rattle.rules.specs.declared.format.Record.{Record}
-use Rattle.rules.specs.declared.format.Record.the-variants.{Missing, Unknown, Short, Event, Gate, EventInput, GateInput, WideInput, End}
+use Rattle.rules.specs.declared.format.Record.the-variants.{Missing, Unknown, Short, Event, SitedEvent, Gate, EventInput, GateInput, WideInput, End}
 use Rattle.rules.specs.declared.judge.State.{State}
 use Rattle.rules.specs.declared.judge.Step.{Step}
 use Rattle.rules.specs.declared.judge.Step.the-variants.{AddEvent, AddGate, AddInput, Close, Refused}
@@ -43,7 +43,7 @@ module _ (k : ℕ) where
 
 -- what a step, or a reading, says if it refuses
 abbrev InRange : Step → Type 0
-InRange (AddEvent c next) = Unit {0}
+InRange (AddEvent c site sited next) = Unit {0}
 InRange (AddGate kind k n next) = Unit {0}
 InRange (AddInput i next) = Unit {0}
 InRange Close = Unit {0}
@@ -53,14 +53,19 @@ abbrev Ranged : Outcome → Type 0
 Ranged (accept b) = Unit {0}
 Ranged (refuse a) = OfReading (verdict a .number)
 
+event-range : (s : State) (after c site : ℕ) (sited : Bool) → InRange (eventStep limits s after c site sited)
+event-range s after c site sited =
+    if-elim InRange (ltb 0 (s .gates)) (λ _. inl (omega arith, omega arith))
+    (λ _. if-elim InRange (mixed s sited) (λ _. inl (omega arith, omega arith))
+    (λ _. if-elim InRange (leb (limits .events) (s .events)) (λ _. inl (omega arith, omega arith))
+    (λ _. if-elim InRange (ltb billion c) (λ _. inl (omega arith, omega arith)) (λ _. tt))))
+
 step-range : (len : ℕ) (s : State) (r : Record) → InRange (admitOf limits len s r)
 step-range len s Missing = inl (omega arith, omega arith)
 step-range len s Unknown = inl (omega arith, omega arith)
 step-range len s Short = inl (omega arith, omega arith)
-step-range len s (Event c) =
-    if-elim InRange (ltb 0 (s .gates)) (λ _. inl (omega arith, omega arith))
-    (λ _. if-elim InRange (leb (limits .events) (s .events)) (λ _. inl (omega arith, omega arith))
-    (λ _. if-elim InRange (ltb billion c) (λ _. inl (omega arith, omega arith)) (λ _. tt)))
+step-range len s (Event c) = event-range s _ c 0 false
+step-range len s (SitedEvent c site) = event-range s _ c site true
 step-range len s (Gate kind k n) =
     if-elim InRange (ltb 0 (s .left)) (λ _. inl (omega arith, omega arith))
     (λ _. if-elim InRange (leb (limits .gates) (s .gates)) (λ _. inl (omega arith, omega arith))
@@ -86,7 +91,7 @@ step-range len s End =
 -- by the record alone, or by 5 after a gate's last input
 stepped : (bytes : List ℕ) (b : Book) → InRange (nextStep limits bytes b)
 unfolding nextStep stepOf
-stepped bytes b = threshold-elim b InRange (λ p. inl (omega arith, omega arith)) (stepOf limits bytes (counts b)) (step-range (length bytes) (counts b) (recordOf true (drop (b .at) bytes)))
+stepped bytes b = threshold-elim b InRange (λ p. inl (omega arith, omega arith)) (stepOf limits bytes (counts b)) (step-range (length bytes) (counts b) (recordOf limits (drop (b .at) bytes)))
 
 closed : (b : Book) → Ranged (closeOf b)
 unfolding closeOf
@@ -102,7 +107,7 @@ running bytes zero b = inl (omega arith, omega arith)
 running bytes (suc turns) b = go (nextStep limits bytes b) refl (stepped bytes b) (running bytes turns)
   where
     go : (x : Step) → nextStep limits bytes b ≡ x → InRange x → ((b : Book) → Ranged (run limits turns bytes b)) → Ranged (run limits (suc turns) bytes b)
-    go (AddEvent c next) q h on = subst Ranged (sym (run-event turns bytes b c next q)) (on (addEvent b c next))
+    go (AddEvent c site sited next) q h on = subst Ranged (sym (run-event turns bytes b c site sited next q)) (on (addEvent b c site sited next))
     go (AddGate kind k n next) q h on = subst Ranged (sym (run-gate turns bytes b kind k n next q)) (on (addGate b kind k n next))
     go (AddInput i next) q h on = subst Ranged (sym (run-input turns bytes b i next q)) (on (addInput b i next))
     go Close q h on = subst Ranged (sym (run-close turns bytes b q)) (closed b)

@@ -1,4 +1,4 @@
--- THE NUMBERING IS NOT SEEN: `list` and `bracket` answer the same on the tables of any two done analyses of one tree.
+-- THE NUMBERING IS NOT SEEN: `list`, `bracket` and `sizes` answer the same on the tables of any two done analyses of one tree.
 -- Assumes nothing.
 use mathlib.Core.Path.{_≡_, sym, ap, _∙_, subst}
 use mathlib.Core.Bool.{Bool}
@@ -9,6 +9,7 @@ use Rattle.paper.specs.Limits.{billion}
 use Rattle.paper.specs.Trees.{Tree, events}
 use Rattle.paper.specs.Listing.{fitting}
 use Rattle.paper.specs.Chance.{low, high}
+use Rattle.paper.specs.Sizes.{sizesArea}
 use Rattle.tables.specs.Table.{den}
 use Rattle.records.specs.Trees.{treeOf}
 use Rattle.walk.specs.After.{toList}
@@ -16,6 +17,8 @@ use Rattle.listing.specs.Answers.{startOf, Short, Written, Answered}
 use Rattle.listing.proofs.Once.{Outcome, Allowed, answer-once}
 use Rattle.bracket.specs.Bracketed.{chanceIn, Enough, Bracketed}
 use Rattle.bracket.proofs.Outcome.{Same, one-outcome}
+use Rattle.sizes.specs.Counted.{Enough as Areas, Fits, TooMany, Done as Counts, Counted}
+use Rattle.sizes.proofs.Outcome.{Same as SameCounts, one-outcome as one-count}
 use Rattle.memory.specs.Memory.{Memory}
 use Rattle.memory.specs.Outcome.{Done}
 use Rattle.analyser.specs.Analysed.{Analysed}
@@ -32,7 +35,8 @@ module _ {t : Tree} {m m₁ m₂ : Memory} {a₁ a₂ : Analysis} (d : Done t m 
   cut-root-same = let r = done-renumbered d e in ap (den (m₂ .cuts)) (r .cut-root) ∙ r .cut-table .denotes (a₁ .«cut_root») (d .cut-table .lent .root-in)
 
   module _ {begin : Bool} {ws room : List ℕ} where
-    moved : {room′ : List ℕ} {number place count used : ℕ} {last : List ℕ} {finished : Bool}
+    -- what `list` may answer on the second table it may answer on the first
+    pub moved : {room′ : List ℕ} {number place count used : ℕ} {last : List ℕ} {finished : Bool}
         → Answered (events t) (m₂ .cuts) (a₂ .«cut_nodes») (a₂ .«cut_root») begin ws room room′ number place count used last finished
         → Answered (events t) (m₁ .cuts) (a₁ .«cut_nodes») (a₁ .«cut_root») begin ws room room′ number place count used last finished
     moved (Answered.no-diagram h r) = absurd (h (e .cut-table .lent))
@@ -56,7 +60,8 @@ module _ {t : Tree} {m m₁ m₂ : Memory} {a₁ a₂ : Analysis} (d : Done t m 
     enough-back x = let l = e .nodes-long ∙ sym (d .nodes-long) in
         record { chances = x .chances; lows = subst (λ k. k / 3 ≤ length L) l (x .lows); highs = subst (λ k. k / 3 ≤ length H) l (x .highs) }
 
-    carried : {number place lo hi : ℕ} {L′ H′ : List ℕ} → Bracketed (events t) (m₂ .nodes) (a₂ .nodes) (a₂ .root) A number place lo hi L H L′ H′
+    -- likewise `bracket`
+    pub carried : {number place lo hi : ℕ} {L′ H′ : List ℕ} → Bracketed (events t) (m₂ .nodes) (a₂ .nodes) (a₂ .root) A number place lo hi L H L′ H′
         → Bracketed (events t) (m₁ .nodes) (a₁ .nodes) (a₁ .root) A number place lo hi L H L′ H′
     carried (Bracketed.no-diagram h r) = absurd (h (e .node-table .lent))
     carried (Bracketed.too-short v h r) = Bracketed.too-short (d .node-table .lent) (λ x. h (enough x)) r
@@ -74,6 +79,41 @@ module _ {t : Tree} {m m₁ m₂ : Memory} {a₁ a₂ : Analysis} (d : Done t m 
     pub bracket-same : {number place lo hi number′ place′ lo′ hi′ : ℕ} {L₁ H₁ L₂ H₂ : List ℕ} → Bracketed (events t) (m₁ .nodes) (a₁ .nodes) (a₁ .root) A number place lo hi L H L₁ H₁
         → Bracketed (events t) (m₂ .nodes) (a₂ .nodes) (a₂ .root) A number′ place′ lo′ hi′ L H L₂ H₂ → Same number place lo hi number′ place′ lo′ hi′ L₁ H₁ L₂ H₂
     bracket-same p q = one-outcome p (carried q)
+
+  module _ {C B W R : List ℕ} where
+    areas : Areas (m₁ .cuts) C B W R → Areas (m₂ .cuts) C B W R
+    areas x = let l = d .cuts-long ∙ sym (e .cuts-long) in
+        record {
+          counts = x .counts;
+          less = subst (λ k. sizesArea (k / 3) ≤ length B) l (x .less);
+          work = subst (λ k. sizesArea (k / 3) ≤ length W) l (x .work);
+          reached = subst (λ k. sizesArea (k / 3) ≤ length R) l (x .reached);
+        }
+
+    areas-back : Areas (m₂ .cuts) C B W R → Areas (m₁ .cuts) C B W R
+    areas-back x = let l = e .cuts-long ∙ sym (d .cuts-long) in
+        record {
+          counts = x .counts;
+          less = subst (λ k. sizesArea (k / 3) ≤ length B) l (x .less);
+          work = subst (λ k. sizesArea (k / 3) ≤ length W) l (x .work);
+          reached = subst (λ k. sizesArea (k / 3) ≤ length R) l (x .reached);
+        }
+
+    -- and `sizes`
+    pub counted : {number place : ℕ} {C′ B′ W′ R′ : List ℕ} → Counted (events t) (m₂ .cuts) (a₂ .«cut_nodes») (a₂ .«cut_root») number place C B W R C′ B′ W′ R′
+        → Counted (events t) (m₁ .cuts) (a₁ .«cut_nodes») (a₁ .«cut_root») number place C B W R C′ B′ W′ R′
+    counted (Counted.no-diagram h r) = absurd (h (e .cut-table .lent))
+    counted (Counted.too-short v h r) = Counted.too-short (d .cut-table .lent) (λ x. h (areas x)) r
+    counted (Counted.too-many v x y r z) = Counted.too-many (d .cut-table .lent) (areas-back x) (subst (λ k. TooMany (events t) k) cut-root-same y) r z
+    counted {number} {place} {C′} (Counted.done v x f r z) =
+        Counted.done (d .cut-table .lent) (areas-back x) (subst (λ k. Fits (events t) k) cut-root-same f) (subst (λ k. Counts (events t) k number place C C′) cut-root-same r) z
+
+    -- one count by size, one outcome
+    pub sizes-same : {number place number′ place′ : ℕ} {C₁ B₁ W₁ R₁ C₂ B₂ W₂ R₂ : List ℕ}
+        → Counted (events t) (m₁ .cuts) (a₁ .«cut_nodes») (a₁ .«cut_root») number place C B W R C₁ B₁ W₁ R₁
+        → Counted (events t) (m₂ .cuts) (a₂ .«cut_nodes») (a₂ .«cut_root») number′ place′ C B W R C₂ B₂ W₂ R₂
+        → SameCounts number place number′ place′ C₁ B₁ W₁ R₁ C₂ B₂ W₂ R₂
+    sizes-same p q = one-count p (counted q)
 
 -- two outcomes of one analysis, the first with number 0: both are done, of one tree
 pub both-done : {bytes : List ℕ} {m m₁ m₂ : Memory} {a₁ a₂ : Analysis} → Analysed bytes m m₁ a₁ → Analysed bytes m m₂ a₂ → a₁ .number ≡ 0

@@ -155,8 +155,38 @@ fn inputs(t: Tree) {
     v.inputs[5] = 65535;
     tell(b"gate 64511 in gate 2", v);
     let mut x = t;
-    x.events[1] = Event { chance: 1000000001 };
+    x.events[1] = Event {
+        chance: 1000000001,
+        site: 0,
+    };
     tell(b"chance 1000000001", x);
+}
+
+// Sites in a tree whose records have none, and records with sites that are all 0.
+fn sites(t: Tree) {
+    let mut u = t;
+    u.events[2] = Event {
+        chance: 100000000,
+        site: 65535,
+    };
+    tell(b"a site in event 2, without sites", u);
+    in_room(u, 35);
+    u.events[1] = Event {
+        chance: 100000000,
+        site: 1,
+    };
+    tell(b"and one in event 1", u);
+    u.inputs[0] = 1;
+    tell(b"and event 0 unused", u);
+    u.sited = true;
+    u.inputs[0] = 0;
+    tell(b"with sites", u);
+    let mut v = t;
+    v.sited = true;
+    tell(b"with sites, all 0", v);
+    v.inputs[2] = 0;
+    v.inputs[1] = 0;
+    tell(b"with sites, event 1 unused", v);
 }
 
 pub fn all() {
@@ -167,6 +197,7 @@ pub fn all() {
     gates(t);
     twins(t);
     inputs(t);
+    sites(t);
     in_room(t, 35);
     in_room(t, 36);
     in_room(t, 37);

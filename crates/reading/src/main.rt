@@ -9,7 +9,7 @@ ghost use Prim.Native.Nat.{_≤_, _<_};
 ghost use lib.ListN.{length};
 
 // The most bytes of a line's tree: more than any reading needs.
-const VECTOR: usize = 24576;
+const VECTOR: usize = 28672;
 
 // Says an answer: its number and its place.
 pub fn say(a: Answer) {

@@ -217,6 +217,7 @@ module _ (t : Tree) (h : LawfulTree limits t) where
         allInputs = codes-sum xs;
         fewInputs = omega (arith, codes-sum xs, gates-room limits xs 0 0 gates-fine (omega arith));
         chances = λ e l. rw (map-at eventOf (t .chances) e noEvent 0 (omega arith)) (events-low limits (t .chances) 0 chances-fine e (omega arith));
+        sites = λ _ e l. rw (map-at eventOf (t .chances) e noEvent 0 (omega arith));
         kinds = λ g l. rw (map-at kindOf xs g 0 none (in-xs g l)) (kind-known (getD xs g none));
         sizes = λ g l. rw (map-at sizeOf xs g 0 none (in-xs g l)) (right g (in-xs g l) .0, right g (in-xs g l) .1);
         leasts = λ g l. rw (map-at kindOf xs g 0 none (in-xs g l), map-at leastOf xs g 0 none (in-xs g l), distinct-at g (in-xs g l))

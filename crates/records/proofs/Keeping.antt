@@ -1,7 +1,7 @@
 -- What holds of every book that a run comes to.
 -- Assumes nothing.
 use mathlib.Core.Path.{_≡_, refl, sym, ap, _∙_}
-use mathlib.Core.Bool.{true, false}
+use mathlib.Core.Bool.{Bool, true, false}
 use mathlib.Core.List.{List, [], _∷_}
 use Prim.Native.Nat.{ℕ, _+_, _-_, _*_, _≤_, _<_}
 use native.Mathlib.Omega.{arith}
@@ -22,15 +22,15 @@ use Rattle.records.specs.Judge.{Book, start, counts, _▷_, addEvent, ad
 use Rattle.records.specs.Memory.{noEvent}
 use Rattle.rules.specs.States.{Bounded}
 use Rattle.rules.specs.declared.format.Record.{Record}
-use Rattle.rules.specs.declared.format.Record.the-variants.{Missing, Unknown, Short, Event, Gate, EventInput, GateInput, WideInput, End}
-use Rattle.rules.proofs.Cases.{if-elim, either, front, known, gate-small}
+use Rattle.rules.specs.declared.format.Record.the-variants.{Missing, Unknown, Short, Event, SitedEvent, Gate, EventInput, GateInput, WideInput, End}
+use Rattle.rules.proofs.Cases.{if-elim, either, front, known, gate-small, event-width, event-small}
 use Rattle.records.proofs.Pad.{length-▷}
 use Rattle.rules.proofs.Steps.{OnEvent, OnGate, OnInput, IsInput, codeOf}
 use Rattle.records.proofs.Sums.{old, new, all-▷, sum-▷, sum-old, sum-last, belows, belows-▷, last-is}
 use Rattle.records.proofs.Starving.{inputs-more, sizes-more, by-last}
 
 -- a gate record that was read is of a gate's kind
-gate-kind : (l : List ℕ) {kind k n : ℕ} → recordOf true l ≡ Gate kind k n → (2 ≤ kind) × (kind ≤ 4)
+gate-kind : (l : List ℕ) {kind k n : ℕ} → recordOf limits l ≡ Gate kind k n → (2 ≤ kind) × (kind ≤ 4)
 gate-kind l {kind} {k} {n} =
     let P : Record → Type 0 = λ r. r ≡ Gate kind k n → (2 ≤ kind) × (kind ≤ 4) in
     let never : _≡_ {A = ℕ} 0 1 → (2 ≤ kind) × (kind ≤ 4) = λ z. absurd (omega arith) in
@@ -45,10 +45,11 @@ gate-kind l {kind} {k} {n} =
     (λ p. never (cc))
     (λ p. never (cc))
     (λ p. never (cc))
+    (λ p. never (cc))
     (byte l 0) some)
 
 -- and, or have no k of their own
-gate-plain : (l : List ℕ) {kind k n : ℕ} → recordOf true l ≡ Gate kind k n → (kind ≡ 4 → ⊥) → k ≡ 0
+gate-plain : (l : List ℕ) {kind k n : ℕ} → recordOf limits l ≡ Gate kind k n → (kind ≡ 4 → ⊥) → k ≡ 0
 gate-plain l {kind} {k} {n} =
     let P : Record → Type 0 = λ r. r ≡ Gate kind k n → (kind ≡ 4 → ⊥) → k ≡ 0 in
     let never : _≡_ {A = ℕ} 0 1 → (kind ≡ 4 → ⊥) → k ≡ 0 = λ z. absurd (omega arith) in
@@ -62,6 +63,7 @@ gate-plain l {kind} {k} {n} =
     (λ p. never (cc))
     (λ p. never (cc))
     (λ p. never (cc))
+    (λ p. never (cc))
     (byte l 0) some)
 
 -- an input that one byte names takes a byte less than the others
@@ -70,6 +72,7 @@ input-width n Missing h = absurd h
 input-width n Unknown h = absurd h
 input-width n Short h = absurd h
 input-width n (Event c) h = absurd h
+input-width n (SitedEvent c site) h = absurd h
 input-width n (Gate kind k m) h = absurd h
 input-width n (EventInput e) h = if-elim (λ (k : ℕ). 2 + k ≤ 3) (ltb e wideFrom) (λ _. omega arith) (λ _. omega arith)
 input-width n (GateInput g) h = rw (le-ltb (gatesFrom + g) wideFrom (omega arith)) (omega arith)
@@ -86,8 +89,9 @@ pub record Kept (b : Book) : Type 0 where
   pub wanted : sum (b .sizes) ≡ length (b .inputs) + b .left
   -- the gates before the last have their inputs
   pub last : sum (take (length (b .sizes) - 1) (b .sizes)) ≤ length (b .inputs)
-  pub low : b .at + belows wideFrom (b .inputs) ≤ 5 * length (b .events) + 3 * length (b .sizes) + 3 * length (b .inputs)
+  pub low : b .at + belows wideFrom (b .inputs) ≤ 7 * length (b .events) + 3 * length (b .sizes) + 3 * length (b .inputs)
   pub chances : (e : ℕ) → e < length (b .events) → getD (b .events) e noEvent .chance ≤ billion
+  pub sites : b .sited ≡ false → (e : ℕ) → e < length (b .events) → getD (b .events) e noEvent .site ≡ 0
   pub kinds : (g : ℕ) → g < length (b .kinds) → (2 ≤ getD (b .kinds) g 0) × (getD (b .kinds) g 0 ≤ 4)
   pub sizes : (g : ℕ) → g < length (b .sizes) → (1 ≤ getD (b .sizes) g 0) × (getD (b .sizes) g 0 ≤ limits .inputs)
   -- a gate that has its inputs has a right k
@@ -110,6 +114,7 @@ kept-start = record {
   last = omega arith;
   low = omega arith;
   chances = λ e h. absurd (omega arith);
+  sites = λ _ e h. absurd (omega arith);
   kinds = λ g h. absurd (omega arith);
   sizes = λ g h. absurd (omega arith);
   right = λ g h. absurd (omega arith);
@@ -126,10 +131,10 @@ module _ {b : Book} (v : Kept b) where
   kept-near = omega (arith, v .low, v .fewEvents, v .fewGates, v .fewInputs)
 
   module _ {len : ℕ} {r : Record} where
-    pub kept-event : {c next : ℕ} → OnEvent len (counts b) r c next → Kept (addEvent b c next)
-    kept-event {c} {next} on =
+    pub kept-event : {c site : ℕ} {sited : Bool} {next : ℕ} → OnEvent len (counts b) r c site sited next → Kept (addEvent b c site sited next)
+    kept-event {c} {site} {sited} {next} on =
         let none : length (b .sizes) ≡ 0 = on .first in
-        let five : widthOf r ≡ 5 = ap widthOf (on .shape) in
+        let small : widthOf r ≤ 7 = rw (on .shape, event-width sited c site) (event-small sited .1) in
         record {
           fewEvents = rw length-▷ (omega arith);
           fewGates = v .fewGates;
@@ -140,7 +145,8 @@ module _ {b : Book} (v : Kept b) where
           wanted = v .wanted;
           last = v .last;
           low = rw length-▷ (omega (arith, v .low));
-          chances = all-▷ (b .events) (record { chance = c }) noEvent (λ _ x. x .chance ≤ billion) (v .chances) (on .chance);
+          chances = all-▷ (b .events) (record { chance = c; site = site }) noEvent (λ _ x. x .chance ≤ billion) (v .chances) (on .chance);
+          sites = λ q. all-▷ (b .events) (record { chance = c; site = site }) noEvent (λ _ x. x .site ≡ 0) (λ e l. v .sites (on .same (omega arith) ∙ q) e l) (on .plain q);
           kinds = v .kinds;
           sizes = v .sizes;
           right = v .right;
@@ -148,7 +154,7 @@ module _ {b : Book} (v : Kept b) where
           fits = λ g h i j k. absurd (omega arith);
         }
 
-    pub kept-gate : (l : List ℕ) → recordOf true l ≡ r → {kind k n next : ℕ} → OnGate len (counts b) r kind k n next → Kept (addGate b kind k n next)
+    pub kept-gate : (l : List ℕ) → recordOf limits l ≡ r → {kind k n next : ℕ} → OnGate len (counts b) r kind k n next → Kept (addGate b kind k n next)
     kept-gate l decoded {kind} {k} {n} {next} on =
         let G : ℕ = length (b .sizes) in
         let three : widthOf r ≤ 3 = rw (on .shape) (gate-small kind k n .1) in
@@ -165,6 +171,7 @@ module _ {b : Book} (v : Kept b) where
           last = let one : length (_▷_ (b .sizes) n) - 1 ≡ G = omega (arith, length-▷ (b .sizes) n) in rw one (omega (arith, all, full));
           low = rw length-▷ (omega (arith, v .low));
           chances = v .chances;
+          sites = v .sites;
           kinds = all-▷ (b .kinds) kind 0 (λ _ x. (2 ≤ x) × (x ≤ 4)) (v .kinds) (gate-kind l (decoded ∙ on .shape));
           sizes = all-▷ (b .sizes) n 0 (λ _ x. (1 ≤ x) × (x ≤ limits .inputs)) (v .sizes) (on .some, on .small);
           right = λ g h.
@@ -203,6 +210,7 @@ module _ {b : Book} (v : Kept b) where
           last = rw length-▷ (omega (arith, v .last));
           low = rw (length-▷, belows-▷) (omega (arith, v .low, wide, on .place));
           chances = v .chances;
+          sites = v .sites;
           kinds = v .kinds;
           sizes = v .sizes;
           right = λ g h m. fed-right g h (rw length-▷ at m);

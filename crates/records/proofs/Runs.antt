@@ -1,7 +1,7 @@
 -- A run over some bytes: what a step does to it, and where it stands at a state.
 -- Assumes nothing.
 use mathlib.Core.Path.{_≡_, refl, sym, ap, _∙_}
-use mathlib.Core.Bool.{true, false}
+use mathlib.Core.Bool.{Bool, true, false}
 use mathlib.Core.List.{List}
 use Prim.Native.Nat.{ℕ, zero, suc, _+_, _-_, _≤_, _<_}
 use native.Mathlib.Numerals.{add-one}
@@ -26,7 +26,7 @@ use Rattle.records.proofs.Starving.{threshold-elim, threshold-fed}
 
 -- what a step leads to, at any limits
 abbrev pub onward : Limits → ℕ → List ℕ → Book → Step → Outcome
-onward L turns bytes b (AddEvent c next) = run L turns bytes (addEvent b c next)
+onward L turns bytes b (AddEvent c site sited next) = run L turns bytes (addEvent b c site sited next)
 onward L turns bytes b (AddGate kind k n next) = run L turns bytes (addGate b kind k n next)
 onward L turns bytes b (AddInput i next) = run L turns bytes (addInput b i next)
 onward L turns bytes b Close = closeOf b
@@ -34,15 +34,15 @@ onward L turns bytes b (Refused a) = refuse a
 
 pub run-step : (L : Limits) (turns : ℕ) (bytes : List ℕ) (b : Book) (x : Step) → nextStep L bytes b ≡ x → run L (suc turns) bytes b ≡ onward L turns bytes b x
 unfolding run
-run-step L turns bytes b (AddEvent c next) e = rw (e, run)
+run-step L turns bytes b (AddEvent c site sited next) e = rw (e, run)
 run-step L turns bytes b (AddGate kind k n next) e = rw (e, run)
 run-step L turns bytes b (AddInput i next) e = rw (e, run)
 run-step L turns bytes b Close e = rw (e, run)
 run-step L turns bytes b (Refused a) e = rw (e, run)
 
 module _ (turns : ℕ) (bytes : List ℕ) (b : Book) where
-  pub run-event : (c next : ℕ) → nextStep limits bytes b ≡ AddEvent c next → run limits (suc turns) bytes b ≡ run limits turns bytes (addEvent b c next)
-  run-event c next e = run-step limits turns bytes b (AddEvent c next) e
+  pub run-event : (c site : ℕ) (sited : Bool) (next : ℕ) → nextStep limits bytes b ≡ AddEvent c site sited next → run limits (suc turns) bytes b ≡ run limits turns bytes (addEvent b c site sited next)
+  run-event c site sited next e = run-step limits turns bytes b (AddEvent c site sited next) e
 
   pub run-gate : (kind k n next : ℕ) → nextStep limits bytes b ≡ AddGate kind k n next → run limits (suc turns) bytes b ≡ run limits turns bytes (addGate b kind k n next)
   run-gate kind k n next e = run-step limits turns bytes b (AddGate kind k n next) e
@@ -84,22 +84,22 @@ module _ {bytes : List ℕ} {s : State} (v : Running bytes s) where
   unfolding nextStep
   step-is e = ap (thresholdStep (v .book)) (sym (e ∙ ap (stepOf limits bytes) (v .state)))
 
-  pub running-sound : {r : Step} → r ≡ stepOf limits bytes s → Sound (length bytes) s (recordOf true (drop (s .at) bytes)) r
+  pub running-sound : {r : Step} → r ≡ stepOf limits bytes s → Sound (length bytes) s (recordOf limits (drop (s .at) bytes)) r
   running-sound e = rw e (sound-step bytes s (v .within))
 
-  unfoldable pub running-event : (c next : ℕ) → AddEvent c next ≡ stepOf limits bytes s
-      → Running bytes (pastEvent s next)
-  running-event c next e =
+  unfoldable pub running-event : (c site : ℕ) (sited : Bool) (next : ℕ) → AddEvent c site sited next ≡ stepOf limits bytes s
+      → Running bytes (pastEvent s sited next)
+  running-event c site sited next e =
       let on = running-sound e in
       let (turns, d, k) = more next (on .further) (on .inside) in
       record {
-        book = addEvent (v .book) c next;
+        book = addEvent (v .book) c site sited next;
         turns = turns;
         state = rw (v .state, length-▷);
         within = on .inside;
         enough = k;
         kept = kept-event (v .kept) (rw (v .state) at on);
-        same = go-on _ turns d (run-event _ _ _ c next (step-is e));
+        same = go-on _ turns d (run-event _ _ _ c site sited next (step-is e));
       }
 
   unfoldable pub running-gate : (kind k n next : ℕ) → AddGate kind k n next ≡ stepOf limits bytes s
@@ -149,10 +149,10 @@ module _ {bytes : List ℕ} {s : State} (v : Running bytes s) where
 -- ---- a run to its end
 
 -- what the next record does to a book is what the rules let it do
-pub sound-next : (bytes : List ℕ) (b : Book) → b .at ≤ length bytes → Sound (length bytes) (counts b) (recordOf true (drop (b .at) bytes)) (nextStep limits bytes b)
+pub sound-next : (bytes : List ℕ) (b : Book) → b .at ≤ length bytes → Sound (length bytes) (counts b) (recordOf limits (drop (b .at) bytes)) (nextStep limits bytes b)
 unfolding nextStep
 sound-next bytes b h =
-    threshold-elim b (Sound (length bytes) (counts b) (recordOf true (drop (b .at) bytes))) (λ p q. let z : _≡_ {A = ℕ} 0 1 = cc in omega arith)
+    threshold-elim b (Sound (length bytes) (counts b) (recordOf limits (drop (b .at) bytes))) (λ p q. let z : _≡_ {A = ℕ} 0 1 = cc in omega arith)
     (stepOf limits bytes (counts b)) (sound-step bytes (counts b) h)
 
 pub next-fed : (bytes : List ℕ) (b : Book) {i next : ℕ} → nextStep limits bytes b ≡ AddInput i next → starved (addInput b i next) ≡ false
@@ -179,24 +179,24 @@ close-none b b′ e = go (unusedBy b) refl
 pub record Closed (bytes : List ℕ) (P : Book → Type 0) (b : Book) : Type 0 where
   pub kept : Kept b
   pub used : unusedBy b ≡ Nothing
-  pub close : OnClose (length bytes) (counts b) (recordOf true (drop (b .at) bytes))
+  pub close : OnClose (length bytes) (counts b) (recordOf limits (drop (b .at) bytes))
   pub holds : P b
 
 -- what holds at the start, and past each record, holds of a book that is accepted
 module _
     (bytes : List ℕ)
     (P : Book → Type 0)
-    (event : (b : Book) (c next : ℕ) → Kept b → P b → OnEvent (length bytes) (counts b) (recordOf true (drop (b .at) bytes)) c next → P (addEvent b c next))
-    (gate : (b : Book) (kind k n next : ℕ) → Kept b → P b → OnGate (length bytes) (counts b) (recordOf true (drop (b .at) bytes)) kind k n next → P (addGate b kind k n next))
-    (input : (b : Book) (i next : ℕ) → Kept b → P b → OnInput (length bytes) (counts b) (recordOf true (drop (b .at) bytes)) i next → P (addInput b i next))
+    (event : (b : Book) (c site : ℕ) (sited : Bool) (next : ℕ) → Kept b → P b → OnEvent (length bytes) (counts b) (recordOf limits (drop (b .at) bytes)) c site sited next → P (addEvent b c site sited next))
+    (gate : (b : Book) (kind k n next : ℕ) → Kept b → P b → OnGate (length bytes) (counts b) (recordOf limits (drop (b .at) bytes)) kind k n next → P (addGate b kind k n next))
+    (input : (b : Book) (i next : ℕ) → Kept b → P b → OnInput (length bytes) (counts b) (recordOf limits (drop (b .at) bytes)) i next → P (addInput b i next))
     (b′ : Book)
   where
     along-step : (turns : ℕ) (b : Book) → Kept b → P b
         → ((x : Book) → Kept x → P x → x .at ≤ length bytes → run limits turns bytes x ≡ accept b′ → Closed bytes P b′)
         → run limits (suc turns) bytes b ≡ accept b′ → (x : Step) → nextStep limits bytes b ≡ x
-        → Sound (length bytes) (counts b) (recordOf true (drop (b .at) bytes)) x → Closed bytes P b′
-    along-step turns b k p on e (AddEvent c next) q s =
-        on (addEvent b c next) (kept-event k s) (event b c next k p s) (s .inside) (sym (run-event turns bytes b c next q) ∙ e)
+        → Sound (length bytes) (counts b) (recordOf limits (drop (b .at) bytes)) x → Closed bytes P b′
+    along-step turns b k p on e (AddEvent c site sited next) q s =
+        on (addEvent b c site sited next) (kept-event k s) (event b c site sited next k p s) (s .inside) (sym (run-event turns bytes b c site sited next q) ∙ e)
     along-step turns b k p on e (AddGate kind least n next) q s =
         on (addGate b kind least n next) (kept-gate k (drop (b .at) bytes) refl s) (gate b kind least n next k p s) (s .inside)
         (sym (run-gate turns bytes b kind least n next q) ∙ e)

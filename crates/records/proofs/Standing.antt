@@ -24,10 +24,11 @@ use Rattle.records.proofs.Feeding.{input-gate, counted-input, starved-i
 use Rattle.records.proofs.Runs.{Running, running-start, running-sound, running-event, running-gate, running-input, running-starved}
 
 -- the tree after a store
-abbrev pub withEvent : Tree → ℕ → ℕ → Tree
-withEvent t n c = record {
-  events = set (t .events) n (record { chance = c });
+abbrev pub withEvent : Tree → ℕ → ℕ → ℕ → Tree
+withEvent t n c site = record {
+  events = set (t .events) n (record { chance = c; site = site });
   «event_count» = t .«event_count»;
+  sited = t .sited;
   kinds = t .kinds;
   leasts = t .leasts;
   sizes = t .sizes;
@@ -39,6 +40,7 @@ abbrev pub withGate : Tree → ℕ → ℕ → ℕ → ℕ → Tree
 withGate t g kind k n = record {
   events = t .events;
   «event_count» = t .«event_count»;
+  sited = t .sited;
   kinds = set (t .kinds) g kind;
   leasts = set (t .leasts) g k;
   sizes = set (t .sizes) g n;
@@ -50,6 +52,7 @@ abbrev pub withInput : Tree → ℕ → ℕ → Tree
 withInput t i code = record {
   events = t .events;
   «event_count» = t .«event_count»;
+  sited = t .sited;
   kinds = t .kinds;
   leasts = t .leasts;
   sizes = t .sizes;
@@ -64,8 +67,8 @@ pub record Arrays (b : Book) (ns ps is : List ℕ) : Type 0 where
   pub inputs : is ≡ pad (limits .inAll) 0 (b .inputs)
 
 module _ {b : Book} {sizes places inputs : List ℕ} (a : Arrays b sizes places inputs) where
-  pub arrays-event : (c next : ℕ) → Arrays (addEvent b c next) sizes places inputs
-  arrays-event c next = record { sizes = a .sizes; places = a .places; inputs = a .inputs }
+  pub arrays-event : (c site : ℕ) (sited : Bool) (next : ℕ) → Arrays (addEvent b c site sited next) sizes places inputs
+  arrays-event c site sited next = record { sizes = a .sizes; places = a .places; inputs = a .inputs }
 
   pub arrays-fronts : Kept b → Fronts b sizes places inputs
   arrays-fronts k = record {
@@ -95,9 +98,9 @@ module _ {b : Book} {sizes places inputs : List ℕ} (a : Arrays b sizes places 
 
 module _ {b : Book} {t : Tree} {ps : List ℕ} (h : Held b t ps) where
   module _ (kept : Kept b) where
-    held-event : (c next : ℕ) → length (b .events) < limits .events → Held (addEvent b c next) (withEvent t (length (b .events)) c) ps
-    held-event c next few = record {
-      events = pad-fill _ _ (b .events) (record { chance = c }) (h .events) refl few;
+    held-event : (c site : ℕ) (sited : Bool) (next : ℕ) → length (b .events) < limits .events → Held (addEvent b c site sited next) (withEvent t (length (b .events)) c site) ps
+    held-event c site sited next few = record {
+      events = pad-fill _ _ (b .events) (record { chance = c; site = site }) (h .events) refl few;
       kinds = h .kinds;
       leasts = h .leasts;
       sizes = h .sizes;
@@ -145,6 +148,7 @@ module _ {b : Book} {t : Tree} {ps : List ℕ} (h : Held b t ps) where
   pub held-memory : {s : State} → s ≡ counts b → (record {
     events = t .events;
     «event_count» = s .events;
+    sited = s .sited;
     kinds = t .kinds;
     leasts = t .leasts;
     sizes = t .sizes;
@@ -155,6 +159,7 @@ module _ {b : Book} {t : Tree} {ps : List ℕ} (h : Held b t ps) where
   held-memory e i = record {
     events = h .events i;
     «event_count» = e i .events;
+    sited = e i .sited;
     kinds = h .kinds i;
     leasts = h .leasts i;
     sizes = h .sizes i;
@@ -181,13 +186,13 @@ standing-start bytes = record {
 }
 
 module _ {bytes : List ℕ} {t : Tree} {ps : List ℕ} {s : State} (v : Standing bytes t ps s) where
-  pub standing-event : (c next : ℕ) → AddEvent c next ≡ stepOf limits bytes s
-      → Standing bytes (withEvent t (s .events) c) ps (pastEvent s next)
+  pub standing-event : (c site : ℕ) (sited : Bool) (next : ℕ) → AddEvent c site sited next ≡ stepOf limits bytes s
+      → Standing bytes (withEvent t (s .events) c site) ps (pastEvent s sited next)
   unfolding running-event
-  standing-event c next e =
+  standing-event c site sited next e =
       let on = running-sound (v .running) e in
       let p = v .running .state in
-      record { running = running-event (v .running) c next e; held = rw (ap (λ (x : State). x .events) p) (held-event (v .held) (v .running .kept) c next (rw p at (on .few))) }
+      record { running = running-event (v .running) c site sited next e; held = rw (ap (λ (x : State). x .events) p) (held-event (v .held) (v .running .kept) c site sited next (rw p at (on .few))) }
 
   pub standing-gate : (kind k n next : ℕ) → AddGate kind k n next ≡ stepOf limits bytes s
       → Standing bytes (withGate t (s .gates) kind k n) (set ps (s .gates) (s .at)) (pastGate s n next)

@@ -128,7 +128,7 @@ module _ {b : Book} {kinds leasts sizes inputs : List ℕ} (told : LastTold b ki
 
 -- what holds of a step, and of a refusal with 5, holds then
 pub threshold-elim : (b : Book) (P : Step → Type 0) → ((p : ℕ) → P (Refused (Threshold p))) → (x : Step) → P x → P (thresholdStep b x)
-threshold-elim b P five (AddEvent c next) h = h
+threshold-elim b P five (AddEvent c site sited next) h = h
 threshold-elim b P five (AddGate kind k n next) h = h
 threshold-elim b P five (AddInput i next) h = if-elim P (starved (addInput b i next)) (λ _. five (lastPlace b)) (λ _. h)
 threshold-elim b P five Close h = h
@@ -136,7 +136,7 @@ threshold-elim b P five (Refused a) h = h
 
 -- an input that is taken leaves its gate with a right k, or with inputs to come
 pub threshold-fed : (b : Book) (x : Step) {i next : ℕ} → thresholdStep b x ≡ AddInput i next → starved (addInput b i next) ≡ false
-threshold-fed b (AddEvent c m) e = let z : _≡_ {A = ℕ} 0 1 = cc in absurd (omega arith)
+threshold-fed b (AddEvent c site sited m) e = let z : _≡_ {A = ℕ} 0 1 = cc in absurd (omega arith)
 threshold-fed b (AddGate kind k n m) e = let z : _≡_ {A = ℕ} 0 1 = cc in absurd (omega arith)
 threshold-fed b (AddInput j m) {i} {next} e = go (starved (addInput b j m)) refl
   where

@@ -1,6 +1,7 @@
 -- A TREE OF THE PAPER LAID OUT as memory holds it; and the rules of a tree on the tree itself.
 -- Assumes nothing.
 use mathlib.Core.Path.{_≡_}
+use mathlib.Core.Bool.{false}
 use mathlib.Core.List.{List, [], _∷_, map}
 use Prim.Native.Nat.{ℕ, _+_, _≤_, _<_}
 use lib.ListN.{length}
@@ -34,14 +35,15 @@ abbrev pub codesOf : Gate → List ℕ
 codesOf x = map codeOf (inputsTo x)
 
 abbrev pub eventOf : ℕ → Event
-eventOf c = record { chance = c }
+eventOf c = record { chance = c; site = 0 }
 
--- the book that such a tree fills; the places of its records are left out
+-- the book that such a tree fills, without sites; the places of its records are left out
 unfoldable pub bookOf : Tree → Book
 bookOf t = record {
   at = 0;
   left = 0;
   events = map eventOf (t .chances);
+  sited = false;
   kinds = map kindOf (t .gates);
   leasts = map leastOf (t .gates);
   sizes = map sizeOf (t .gates);

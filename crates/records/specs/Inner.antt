@@ -5,11 +5,12 @@ use mathlib.Core.List.{List}
 use lib.ListN.{length, getD, take}
 use Rattle.paper.specs.Limits.{limits}
 use Rattle.paper.specs.Lists.{sum}
-use Rattle.records.specs.Judge.{Book, counts, unusedBy, closeOf}
-use Rattle.records.specs.Memory.{pad, noEvent, inMemory}
+use Rattle.records.specs.Judge.{Book, counts, unusedBy}
+use Rattle.records.specs.Memory.{pad, noEvent}
 use Rattle.records.specs.declared.Reading.{Reading}
 use Rattle.records.specs.declared.Tree.{Tree}
 use Rattle.rules.specs.declared.judge.State.{State}
+use Rattle.rules.specs.declared.Answer.the-variants.{Done}
 use Rattle.records.specs.declared.uses.Found.{Found}
 use Rattle.records.specs.declared.uses.Found.the-variants.{At, Nothing}
 
@@ -60,5 +61,18 @@ pub record Held (b : Book) (t : Tree) (ps : List ℕ) : Type 0 where
   pub inputs : t .inputs ≡ pad (limits .inAll) 0 (b .inputs)
   pub places : ps ≡ pad (limits .gates) 0 (b .places)
 
-abbrev pub Closes : Tree → List ℕ → State → Reading → Type 0
-Closes t places s r = (b : Book) → Held b t places → Fronts b (t .sizes) places (t .inputs) → s ≡ counts b → r ≡ inMemory (closeOf b)
+-- t with the counts of s, answered
+abbrev pub whole : Tree → State → Reading
+whole t s = record {
+  answer = Done;
+  tree = record {
+    events = t .events;
+    «event_count» = s .events;
+    kinds = t .kinds;
+    leasts = t .leasts;
+    sizes = t .sizes;
+    «gate_count» = s .gates;
+    inputs = t .inputs;
+    sited = s .sited;
+  };
+}

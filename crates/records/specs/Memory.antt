@@ -14,12 +14,13 @@ unfoldable pub pad {ℓ} : {A : Type ℓ} → ℕ → A → List A → List A
 pad n z xs = xs ++ replicate (n - length xs) z
 
 abbrev pub noEvent : Event
-noEvent = record { chance = 0 }
+noEvent = record { chance = 0; site = 0 }
 
 unfoldable pub memory : Book → Tree
 memory b = record {
   events = pad (limits .events) noEvent (b .events);
   «event_count» = length (b .events);
+  sited = b .sited;
   kinds = pad (limits .gates) 0 (b .kinds);
   leasts = pad (limits .gates) 0 (b .leasts);
   sizes = pad (limits .gates) 0 (b .sizes);

@@ -1,6 +1,6 @@
 -- The tree that was read, and the one that arrays hold, as the paper has them.
 use mathlib.Core.Path.{_≡_}
-use mathlib.Core.Bool.{true}
+use mathlib.Core.Bool.{true, false}
 use Prim.Native.Nat.{ℕ, _+_, _≤_, _<_}
 use mathlib.Core.List.{List, [], _∷_, map}
 use lib.ListN.{length, getD, take}
@@ -40,6 +40,8 @@ pub record Lawful (L : Limits) (b : Book) : Type 0 where
   pub allInputs : sum (b .sizes) ≡ length (b .inputs)
   pub fewInputs : length (b .inputs) ≤ L .inAll
   pub chances : (e : ℕ) → e < length (b .events) → getD (b .events) e noEvent .chance ≤ billion
+  -- an event whose record has no site has site 0
+  pub sites : b .sited ≡ false → (e : ℕ) → e < length (b .events) → getD (b .events) e noEvent .site ≡ 0
   pub kinds : (g : ℕ) → g < length (b .sizes) → (2 ≤ getD (b .kinds) g 0) × (getD (b .kinds) g 0 ≤ 4)
   pub sizes : (g : ℕ) → g < length (b .sizes) → (1 ≤ getD (b .sizes) g 0) × (getD (b .sizes) g 0 ≤ L .inputs)
   pub leasts : (g : ℕ) → g < length (b .sizes) → getD (b .kinds) g 0 ≡ 4 → (1 ≤ getD (b .leasts) g 0) × (getD (b .leasts) g 0 ≤ distinctAt (b .sizes) (b .inputs) g)

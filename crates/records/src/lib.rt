@@ -20,16 +20,17 @@ ghost use mathlib.Core.Path.{_≡_};
 ghost use Rattle.paper.specs.Limits.{limits};
 ghost use Rattle.rules.specs.Answers.{verdict};
 ghost use Rattle.records.specs.Judge.{start, refuse, outcome, judge};
-ghost use Rattle.records.specs.Memory.{memory, inMemory};
-ghost use Rattle.records.specs.Inner.{Ready, Closes};
+ghost use Rattle.records.specs.Memory.{noEvent, memory, inMemory};
+ghost use Rattle.records.specs.Inner.{whole};
 
-// An event of a tree, its chance in billionths.
+// An event of a tree: its chance in billionths, and its site, 0 where its record has none.
 pub struct Event {
     pub chance: u32,
+    pub site: u16,
 }
 
-// A tree: its events; for each gate its kind (2 and, 3 or, 4 at least), its k and its n; and the inputs of all gates, one
-// gate after the other. A tree that was read has zeros behind its counts.
+// A tree: its events; for each gate its kind (2 and, 3 or, 4 at least), its k and its n; the inputs of all gates, one gate after the other; and whether the events'
+// records have sites. A tree that was read has zeros behind its counts. The bool is last, so that no gap parts the arrays and a tree is cleared at once.
 pub struct Tree {
     pub events: [Event; EVENTS],
     pub event_count: usize,
@@ -38,6 +39,7 @@ pub struct Tree {
     pub sizes: [u8; GATES],
     pub gate_count: usize,
     pub inputs: [u16; IN_ALL],
+    pub sited: bool,
 }
 
 pub struct Reading {
@@ -45,11 +47,18 @@ pub struct Reading {
     pub tree: Tree,
 }
 
+// An event that is all zero. As a call's answer it is filled in whole, its padding too, so an array of it is cleared at once.
+pub fn no_event() -> Event
+    ensures { λ r. ⌜ r ≡ noEvent ⌝ }
+{
+    Event { chance: 0, site: 0 }
+}
+
 // The tree of no record.
 pub fn empty() -> Tree
     ensures { λ r. ⌜ r ≡ memory start ⌝ }
 {
-    let none = Event { chance: 0 };
+    let none = no_event();
     let events = [none; EVENTS];
     Tree {
         events,
@@ -59,6 +68,7 @@ pub fn empty() -> Tree
         sizes: [0; GATES],
         gate_count: 0,
         inputs: [0; IN_ALL],
+        sited: false,
     }
 }
 
@@ -70,24 +80,17 @@ fn refused(answer: Answer) -> Reading
     Reading { answer, tree }
 }
 
-// The end record is read: number 8 is judged.
-fn finish(t: Tree, places: [usize; GATES], s: State) -> Reading
-    requires { ⌜ Ready (t .sizes) places (t .inputs) s ⌝ }
-    ensures { λ r. ⌜ Closes t places s r ⌝ }
+// Every record is read, and every item is used: the tree with its counts.
+fn done(t: Tree, s: State) -> Reading
+    ensures { λ r. ⌜ r ≡ whole t s ⌝ }
 {
-    let sizes = t.sizes;
-    let inputs = t.inputs;
-    match unused_in(sizes, places, inputs, s) {
-        Found::At(place) => refused(Answer::Unused(place)),
-        Found::Nothing => {
-            let mut u = t;
-            u.event_count = s.events;
-            u.gate_count = s.gates;
-            Reading {
-                answer: Answer::Done,
-                tree: u,
-            }
-        }
+    let mut tree = t;
+    tree.event_count = s.events;
+    tree.sited = s.sited;
+    tree.gate_count = s.gates;
+    Reading {
+        answer: Answer::Done,
+        tree,
     }
 }
 
@@ -104,10 +107,10 @@ pub fn read(bytes: &[u8]) -> Reading
         let g = s.gates;
         let i = s.inputs;
         match next(bytes, s) {
-            Step::AddEvent(chance, after) => {
-                let e = Event { chance };
+            Step::AddEvent(chance, site, sited, after) => {
+                let e = Event { chance, site };
                 t.events[n] = e;
-                s = past_event(s, after);
+                s = past_event(s, sited, after);
             }
             Step::AddGate(kind, k, size, after) => {
                 t.kinds[g] = kind;
@@ -124,7 +127,10 @@ pub fn read(bytes: &[u8]) -> Reading
                     return refused(Answer::Threshold(gate));
                 }
             }
-            Step::Close => return finish(t, places, s),
+            Step::Close => match unused_in(&t.sizes, &places, &t.inputs, s) {
+                Found::At(place) => return refused(Answer::Unused(place)),
+                Found::Nothing => return done(t, s),
+            },
             Step::Refused(a) => return refused(a),
         }
     }

@@ -2,7 +2,7 @@
 use paper::GATES;
 use paper::GATES_FROM;
 use paper::IN_ALL;
-use rules::format::length as length_of;
+use rules::format::event_length;
 use rules::judge::State;
 ghost use mathlib.Core.Path.{_≡_};
 ghost use Prim.Native.Nat.{_+_, _≤_};
@@ -57,14 +57,20 @@ fn missing<'a>(sizes: &'a [u8], inputs: &'a [u16], from: u16, count: usize) -> F
     Found::Nothing
 }
 
-// The place of the lowest unused event, else of the lowest unused gate but the root.
-fn unused<'a>(events: usize, sizes: &'a [u8], places: &'a [usize], inputs: &'a [u16]) -> Found
+// The place of the lowest unused event, whose records have sites or not, else of the lowest unused gate but the root.
+fn unused<'a>(
+    sited: bool,
+    events: usize,
+    sizes: &'a [u8],
+    places: &'a [usize],
+    inputs: &'a [u16],
+) -> Found
     requires { ⌜ Complete events (now sizes) (now places) (now inputs) ⌝ }
-    ensures { λ r. ⌜ r ≡ unusedOf events (now (sizes .entry)) (now (places .entry)) (now (inputs .entry)) ⌝ }
+    ensures { λ r. ⌜ r ≡ unusedOf sited events (now (sizes .entry)) (now (places .entry)) (now (inputs .entry)) ⌝ }
 {
     match missing(sizes, inputs, 0, events) {
         Found::At(i) => {
-            return Found::At(length_of(1) * i);
+            return Found::At(event_length(sited) * i);
         }
         Found::Nothing => {}
     }
@@ -75,21 +81,19 @@ fn unused<'a>(events: usize, sizes: &'a [u8], places: &'a [usize], inputs: &'a [
 }
 
 // The same, read off the fronts of arrays at the end record.
-pub fn unused_in(
-    sizes: [u8; GATES],
-    places: [usize; GATES],
-    inputs: [u16; IN_ALL],
+pub fn unused_in<'a>(
+    sizes: &'a [u8; GATES],
+    places: &'a [usize; GATES],
+    inputs: &'a [u16; IN_ALL],
     s: State,
 ) -> Found
-    requires { ⌜ Ready sizes places inputs s ⌝ }
-    ensures { λ r. ⌜ Seeks sizes places inputs s r ⌝ }
+    requires { ⌜ Ready (now sizes) (now places) (now inputs) s ⌝ }
+    ensures { λ r. ⌜ Seeks (now (sizes .entry)) (now (places .entry)) (now (inputs .entry)) s r ⌝ }
 {
     let gates = s.gates;
     let count = s.inputs;
-    unused(
-        s.events,
-        &sizes[..gates],
-        &places[..gates],
-        &inputs[..count],
-    )
+    let ns = &sizes[..];
+    let ps = &places[..];
+    let is = &inputs[..];
+    unused(s.sited, s.events, &ns[..gates], &ps[..gates], &is[..count])
 }

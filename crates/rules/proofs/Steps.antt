@@ -1,26 +1,27 @@
 -- What a step tells of the state that it was taken in, and of the record.
 -- Assumes nothing.
 use mathlib.Core.Path.{_≡_, refl, ap}
-use mathlib.Core.Bool.{true}
+use mathlib.Core.Bool.{Bool, true, false}
 use mathlib.Core.List.{List}
 use Prim.Native.Nat.{ℕ, _+_, _-_, _≤_, _<_}
 use native.Mathlib.Omega.{arith}
 use lib.ListN.{length, drop, length-drop}
 use lib.Dec.{ltb, leb, eqb}
-use borrow.Author.Tests.{ltb-false, leb-false, eqb-false}
+use borrow.Author.Tests.{ltb-false, leb-false, eqb-false, ne-eqb}
 use Rattle.paper.specs.Limits.{limits, wideFrom, billion}
+use Rattle.rules.specs.Choice.{if_then_else_}
 use Rattle.rules.specs.Answers.{verdict}
-use Rattle.rules.specs.Format.{recordOf, widthOf}
+use Rattle.rules.specs.Format.{eventIn, eventLength, recordOf, widthOf}
 use Rattle.paper.specs.Flat.{gatesFrom}
-use Rattle.rules.specs.Rules.{eventStep, gateStep, eventInputStep, gateInputStep, wideInputStep, endStep, admitOf, stepOf, Fits}
+use Rattle.rules.specs.Rules.{mixed, eventStep, gateStep, eventInputStep, gateInputStep, wideInputStep, endStep, admitOf, stepOf, Fits}
 use Rattle.rules.specs.declared.Answer.{Answer}
 use Rattle.rules.specs.declared.Answer.the-variants.{Done}
 use Rattle.rules.specs.declared.format.Record.{Record}
-use Rattle.rules.specs.declared.format.Record.the-variants.{Missing, Unknown, Short, Event, Gate, EventInput, GateInput, WideInput, End}
+use Rattle.rules.specs.declared.format.Record.the-variants.{Missing, Unknown, Short, Event, SitedEvent, Gate, EventInput, GateInput, WideInput, End}
 use Rattle.rules.specs.declared.judge.State.{State}
 use Rattle.rules.specs.declared.judge.Step.{Step}
 use Rattle.rules.specs.declared.judge.Step.the-variants.{AddEvent, AddGate, AddInput, Close, Refused}
-use Rattle.rules.proofs.Cases.{if-elim, width-le, gate-small}
+use Rattle.rules.proofs.Cases.{if-elim, width-le, gate-small, event-width, event-small}
 
 -- the input that a record names
 abbrev pub codeOf : Record → ℕ
@@ -28,6 +29,7 @@ codeOf Missing = 0
 codeOf Unknown = 0
 codeOf Short = 0
 codeOf (Event c) = 0
+codeOf (SitedEvent c site) = 0
 codeOf (Gate kind k n) = 0
 codeOf (EventInput e) = e
 codeOf (GateInput g) = gatesFrom + g
@@ -40,6 +42,7 @@ IsInput n Missing = ⊥
 IsInput n Unknown = ⊥
 IsInput n Short = ⊥
 IsInput n (Event c) = ⊥
+IsInput n (SitedEvent c site) = ⊥
 IsInput n (Gate kind k m) = ⊥
 IsInput n (EventInput e) = e < n
 IsInput n (GateInput g) = Unit {0}
@@ -51,20 +54,24 @@ input-small n Missing h = absurd h
 input-small n Unknown h = absurd h
 input-small n Short h = absurd h
 input-small n (Event c) h = absurd h
+input-small n (SitedEvent c site) h = absurd h
 input-small n (Gate kind k m) h = absurd h
 input-small n (EventInput e) h = (omega arith, omega arith)
 input-small n (GateInput g) h = (omega arith, omega arith)
 input-small n (WideInput e) h = (omega arith, omega arith)
 input-small n End h = absurd h
 
-pub record OnEvent (len : ℕ) (s : State) (r : Record) (c next : ℕ) : Type 0 where
+pub record OnEvent (len : ℕ) (s : State) (r : Record) (c site : ℕ) (sited : Bool) (next : ℕ) : Type 0 where
   pub further : s .at < next
   pub inside : next ≤ len
   pub few : s .events < limits .events
   pub first : s .gates ≡ 0
   pub place : next ≡ s .at + widthOf r
-  pub shape : r ≡ Event c
+  pub shape : r ≡ eventIn sited c site
   pub chance : c ≤ billion
+  -- the events before it are of its form, and without a site it has site 0
+  pub same : 0 < s .events → s .sited ≡ sited
+  pub plain : sited ≡ false → site ≡ 0
 
 pub record OnGate (len : ℕ) (s : State) (r : Record) (kind k n next : ℕ) : Type 0 where
   pub further : s .at < next
@@ -94,7 +101,7 @@ pub record OnClose (len : ℕ) (s : State) (r : Record) : Type 0 where
   pub shape : r ≡ End
 
 abbrev pub Sound : ℕ → State → Record → Step → Type 0
-Sound len s r (AddEvent c next) = OnEvent len s r c next
+Sound len s r (AddEvent c site sited next) = OnEvent len s r c site sited next
 Sound len s r (AddGate kind k n next) = OnGate len s r kind k n next
 Sound len s r (AddInput i next) = OnInput len s r i next
 Sound len s r Close = OnClose len s r
@@ -104,22 +111,36 @@ Sound len s r (Refused a) = a ≡ Done → ⊥
 refusal : {a : Answer} → 1 ≤ verdict a .number → a ≡ Done → ⊥
 refusal {a} h e = omega (arith, ap (λ (x : Answer). verdict x .number) e)
 
+-- events that are not mixed are of one form
+one-form : (a b : Bool) → (if a then (if b then false else true) else b) ≡ false → a ≡ b
+one-form true true e = refl
+one-form true false e = let z : _≡_ {A = ℕ} 0 1 = cc in absurd (omega arith)
+one-form false true e = let z : _≡_ {A = ℕ} 0 1 = cc in absurd (omega arith)
+one-form false false e = refl
+
+pub unmixed : (s : State) (sited : Bool) → mixed s sited ≡ false → 0 < s .events → s .sited ≡ sited
+unmixed s sited e some = one-form (s .sited) sited (rw (ne-eqb (s .events) 0 (λ z. omega arith)) at e)
+
 module _ (len : ℕ) (s : State) where
-  sound-event : (c : ℕ) → s .at + 5 ≤ len → Sound len s (Event c) (eventStep limits s (s .at + 5) c)
-  sound-event c h =
-      let P : Step → Type 0 = Sound len s (Event c) in
+  sound-event : (c site : ℕ) (sited : Bool) → (sited ≡ false → site ≡ 0) → s .at + eventLength sited ≤ len
+      → Sound len s (eventIn sited c site) (eventStep limits s (s .at + eventLength sited) c site sited)
+  sound-event c site sited plain h =
+      let P : Step → Type 0 = Sound len s (eventIn sited c site) in
       if-elim P (ltb 0 (s .gates)) (λ _. refusal (omega arith))
-      (λ e. if-elim P (leb (limits .events) (s .events)) (λ _. refusal (omega arith))
+      (λ e. if-elim P (mixed s sited) (λ _. refusal (omega arith))
+      (λ m. if-elim P (leb (limits .events) (s .events)) (λ _. refusal (omega arith))
       (λ d. if-elim P (ltb billion c) (λ _. refusal (omega arith))
       (λ f. record {
-        further = omega arith;
+        further = omega (arith, event-small sited);
         inside = h;
         few = leb-false (limits .events) (s .events) d;
         first = omega (arith, ltb-false 0 (s .gates) e);
-        place = refl;
+        place = rw (event-width sited c site);
         shape = refl;
         chance = ltb-false billion c f;
-      })))
+        same = unmixed s sited m;
+        plain = plain;
+      }))))
 
   sound-gate : (kind k n : ℕ) → s .at + widthOf (Gate kind k n) ≤ len → Sound len s (Gate kind k n) (gateStep limits s (s .at + widthOf (Gate kind k n)) kind k n)
   sound-gate kind k n h =
@@ -206,7 +227,8 @@ module _ (len : ℕ) (s : State) where
   sound Missing h = refusal (omega arith)
   sound Unknown h = refusal (omega arith)
   sound Short h = refusal (omega arith)
-  sound (Event c) h = sound-event c h
+  sound (Event c) h = sound-event c 0 false (λ _. refl) h
+  sound (SitedEvent c site) h = sound-event c site true (λ e. let z : _≡_ {A = ℕ} 0 1 = cc in absurd (omega arith)) h
   sound (Gate kind k n) h = sound-gate kind k n h
   sound (EventInput e) h = sound-event-input e h
   sound (GateInput g) h = sound-gate-input g h
@@ -214,7 +236,7 @@ module _ (len : ℕ) (s : State) where
   sound End h = sound-end
 
 pub sound-step : (bytes : List ℕ) (s : State) → s .at ≤ length bytes
-    → Sound (length bytes) s (recordOf true (drop (s .at) bytes)) (stepOf limits bytes s)
+    → Sound (length bytes) s (recordOf limits (drop (s .at) bytes)) (stepOf limits bytes s)
 unfolding stepOf
 sound-step bytes s h =
-    sound (length bytes) s (recordOf true (drop (s .at) bytes)) (omega (arith, width-le (drop (s .at) bytes), length-drop (s .at) bytes))
+    sound (length bytes) s (recordOf limits (drop (s .at) bytes)) (omega (arith, width-le (drop (s .at) bytes), length-drop (s .at) bytes))

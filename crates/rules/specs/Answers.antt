@@ -1,7 +1,7 @@
 -- The paper's number and place for each case of an answer.
 use Rattle.paper.specs.Answers.{Verdict}
 use Rattle.rules.specs.declared.Answer.{Answer}
-use Rattle.rules.specs.declared.Answer.the-variants.{Done, Cut, UnknownKind, OutOfPlace, Count, Threshold, Reference, Chance, Unused, Room, Narrow}
+use Rattle.rules.specs.declared.Answer.the-variants.{Done, Cut, UnknownKind, OutOfPlace, Count, Threshold, Reference, Chance, Unused, Room, Narrow, Sited}
 
 abbrev pub verdict : Answer → Verdict
 verdict Done = record { number = 0; place = 0 }
@@ -15,3 +15,4 @@ verdict (Chance p) = record { number = 7; place = p }
 verdict (Unused p) = record { number = 8; place = p }
 verdict Room = record { number = 9; place = 0 }
 verdict (Narrow p) = record { number = 21; place = p }
+verdict (Sited p) = record { number = 22; place = p }

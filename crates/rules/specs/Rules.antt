@@ -10,18 +10,23 @@ use Rattle.rules.specs.Format.{recordOf, widthOf}
 use Rattle.paper.specs.Flat.{gatesFrom}
 use Rattle.rules.specs.declared.Answer.the-variants.{Cut, UnknownKind, OutOfPlace, Count, Reference, Chance, Narrow}
 use Rattle.rules.specs.declared.format.Record.{Record}
-use Rattle.rules.specs.declared.format.Record.the-variants.{Missing, Unknown, Short, Event, Gate, EventInput, GateInput, WideInput, End}
+use Rattle.rules.specs.declared.format.Record.the-variants.{Missing, Unknown, Short, Event, SitedEvent, Gate, EventInput, GateInput, WideInput, End}
 use Rattle.rules.specs.declared.judge.State.{State}
 use Rattle.rules.specs.declared.judge.Step.{Step}
 use Rattle.rules.specs.declared.judge.Step.the-variants.{AddEvent, AddGate, AddInput, Close, Refused}
 
--- `after` is the place of the next record
-abbrev pub eventStep : Limits → State → ℕ → ℕ → Step
-eventStep L s after c =
+-- an event with a site behind one without, or one without behind one with
+abbrev pub mixed : State → Bool → Bool
+mixed s sited = if eqb (s .events) 0 then false else (if s .sited then (if sited then false else true) else sited)
+
+-- `after` is the place of the next record; a mixture is out of place (3), which comes before the limits (4) and the chance (7)
+abbrev pub eventStep : Limits → State → ℕ → ℕ → ℕ → Bool → Step
+eventStep L s after c site sited =
     if ltb 0 (s .gates) then Refused (OutOfPlace (s .at)) else
+    if mixed s sited then Refused (OutOfPlace (s .at)) else
     if leb (L .events) (s .events) then Refused (Count (s .at)) else
     if ltb billion c then Refused (Chance (s .at)) else
-    AddEvent c after
+    AddEvent c site sited after
 
 abbrev pub gateStep : Limits → State → ℕ → ℕ → ℕ → ℕ → Step
 gateStep L s after kind k n =
@@ -74,7 +79,8 @@ abbrev pub admitOf : Limits → ℕ → State → Record → Step
 admitOf L len s Missing = Refused (Cut len)
 admitOf L len s Unknown = Refused (UnknownKind (s .at))
 admitOf L len s Short = Refused (Cut (s .at))
-admitOf L len s (Event c) = eventStep L s (s .at + widthOf (Event c)) c
+admitOf L len s (Event c) = eventStep L s (s .at + widthOf (Event c)) c 0 false
+admitOf L len s (SitedEvent c site) = eventStep L s (s .at + widthOf (SitedEvent c site)) c site true
 admitOf L len s (Gate kind k n) = gateStep L s (s .at + widthOf (Gate kind k n)) kind k n
 admitOf L len s (EventInput e) = eventInputStep s (s .at + widthOf (EventInput e)) e
 admitOf L len s (GateInput g) = gateInputStep s (s .at + widthOf (GateInput g)) g
@@ -82,4 +88,4 @@ admitOf L len s (WideInput e) = wideInputStep s (s .at + widthOf (WideInput e)) 
 admitOf L len s End = endStep len s (s .at + widthOf End)
 
 unfoldable pub stepOf : Limits → List ℕ → State → Step
-stepOf L bytes s = admitOf L (length bytes) s (recordOf (L .wide) (drop (s .at) bytes))
+stepOf L bytes s = admitOf L (length bytes) s (recordOf L (drop (s .at) bytes))

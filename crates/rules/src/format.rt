@@ -1,8 +1,8 @@
 // The records of a tree: what stands at the front of some bytes.
 ghost use mathlib.Core.Path.{_≡_};
-ghost use mathlib.Core.Bool.{true};
 ghost use Prim.Native.Nat.{_+_, _*_};
-ghost use Rattle.rules.specs.Format.{lengthOf, recordOf, widthOf};
+ghost use Rattle.paper.specs.Limits.{limits};
+ghost use Rattle.rules.specs.Format.{lengthOf, eventLength, recordOf, widthOf};
 
 pub enum Record {
     // No byte is left.
@@ -13,6 +13,8 @@ pub enum Record {
     Short,
     // Its chance.
     Event(u32),
+    // Its chance and its site.
+    SitedEvent(u32, u16),
     // Its kind, its k (0 for and, or) and its n.
     Gate(u8, u8, u8),
     EventInput(u8),
@@ -35,8 +37,19 @@ pub fn length(kind: u8) -> usize
         6 => 3,
         7 => 1,
         8 => 3,
+        17 => 7,
         _ => 0,
     }
+}
+
+// How many bytes an event's record takes, with a site or without.
+pub fn event_length(sited: bool) -> usize
+    ensures { λ n. ⌜ n ≡ eventLength sited ⌝ }
+{
+    if sited {
+        return length(17);
+    }
+    length(1)
 }
 
 // How many bytes a record takes.
@@ -45,6 +58,7 @@ pub fn width(r: Record) -> usize
 {
     match r {
         Record::Event(_) => length(1),
+        Record::SitedEvent(_, _) => length(17),
         Record::Gate(kind, _, _) => {
             if kind == 4 {
                 return length(4);
@@ -76,7 +90,7 @@ fn four(a: u8, b: u8, c: u8, d: u8) -> u32
 
 // The record at the front of b.
 pub fn decode(b: &[u8]) -> Record
-    ensures { λ r. ⌜ r ≡ recordOf true (now (b .entry)) ⌝ }
+    ensures { λ r. ⌜ r ≡ recordOf limits (now (b .entry)) ⌝ }
 {
     if b.len() == 0 {
         return Record::Missing;
@@ -97,6 +111,7 @@ pub fn decode(b: &[u8]) -> Record
         5 => Record::EventInput(b[1]),
         6 => Record::GateInput(two(b[1], b[2])),
         8 => Record::WideInput(two(b[1], b[2])),
+        17 => Record::SitedEvent(four(b[1], b[2], b[3], b[4]), two(b[5], b[6])),
         _ => Record::End,
     }
 }

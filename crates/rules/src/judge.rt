@@ -16,13 +16,14 @@ ghost use lib.ListN.{length};
 ghost use Rattle.paper.specs.Limits.{limits};
 ghost use Rattle.rules.specs.Format.{widthOf};
 ghost use Rattle.rules.specs.States.{begun, pastEvent, pastGate, pastInput, Bounded};
-ghost use Rattle.rules.specs.Rules.{wrongK, eventStep, gateStep, eventInputStep, gateInputStep, wideInputStep, endStep, admitOf, stepOf};
+ghost use Rattle.rules.specs.Rules.{wrongK, mixed, eventStep, gateStep, eventInputStep, gateInputStep, wideInputStep, endStep, admitOf, stepOf};
 
-// Where the reading stands: the place of the next record, the numbers of events, of gates and of inputs so far, and how
-// many inputs the last gate still wants.
+// Where the reading stands: the place of the next record, the number of events so far and whether they have sites, the
+// numbers of gates and of inputs so far, and how many inputs the last gate still wants.
 pub struct State {
     pub at: usize,
     pub events: usize,
+    pub sited: bool,
     pub gates: usize,
     pub inputs: usize,
     pub left: usize,
@@ -30,7 +31,8 @@ pub struct State {
 
 // What a record adds to the tree, with the place of the next record; or why it is refused.
 pub enum Step {
-    AddEvent(u32, usize),
+    // Its chance, its site, and whether it has one.
+    AddEvent(u32, u16, bool, usize),
     AddGate(u8, u8, u8, usize),
     AddInput(u16, usize),
     Close,
@@ -44,6 +46,7 @@ pub fn begin() -> State
     State {
         at: 0,
         events: 0,
+        sited: false,
         gates: 0,
         inputs: 0,
         left: 0,
@@ -51,13 +54,14 @@ pub fn begin() -> State
 }
 
 // Past an event, whose record ends before `after`.
-pub fn past_event(s: State, after: usize) -> State
+pub fn past_event(s: State, sited: bool, after: usize) -> State
     requires { ⌜ Bounded s ⌝ }
-    ensures { λ r. ⌜ r ≡ pastEvent s after ⌝ }
+    ensures { λ r. ⌜ r ≡ pastEvent s sited after ⌝ }
 {
     State {
         at: after,
         events: s.events + 1,
+        sited,
         gates: s.gates,
         inputs: s.inputs,
         left: s.left,
@@ -72,6 +76,7 @@ pub fn past_gate(s: State, n: u8, after: usize) -> State
     State {
         at: after,
         events: s.events,
+        sited: s.sited,
         gates: s.gates + 1,
         inputs: s.inputs,
         left: n as usize,
@@ -86,16 +91,36 @@ pub fn past_input(s: State, after: usize) -> State
     State {
         at: after,
         events: s.events,
+        sited: s.sited,
         gates: s.gates,
         inputs: s.inputs + 1,
         left: s.left - 1,
     }
 }
 
-fn admit_event(s: State, after: usize, c: u32) -> Step
-    ensures { λ r. ⌜ r ≡ eventStep limits s after c ⌝ }
+// Whether an event, with a site or without, stands behind one of the other form.
+fn mixed(s: State, sited: bool) -> bool
+    ensures { λ r. ⌜ r ≡ mixed s sited ⌝ }
+{
+    if s.events == 0 {
+        return false;
+    }
+    if s.sited {
+        if sited {
+            return false;
+        }
+        return true;
+    }
+    sited
+}
+
+fn admit_event(s: State, after: usize, c: u32, site: u16, sited: bool) -> Step
+    ensures { λ r. ⌜ r ≡ eventStep limits s after c site sited ⌝ }
 {
     if 0 < s.gates {
+        return Step::Refused(Answer::OutOfPlace(s.at));
+    }
+    if mixed(s, sited) {
         return Step::Refused(Answer::OutOfPlace(s.at));
     }
     if EVENTS <= s.events {
@@ -104,7 +129,7 @@ fn admit_event(s: State, after: usize, c: u32) -> Step
     if BILLION < c {
         return Step::Refused(Answer::Chance(s.at));
     }
-    Step::AddEvent(c, after)
+    Step::AddEvent(c, site, sited, after)
 }
 
 fn admit_gate(s: State, after: usize, kind: u8, k: u8, n: u8) -> Step
@@ -210,7 +235,8 @@ pub fn admit(s: State, len: usize, r: Record) -> Step
         Record::Missing => Step::Refused(Answer::Cut(len)),
         Record::Unknown => Step::Refused(Answer::UnknownKind(s.at)),
         Record::Short => Step::Refused(Answer::Cut(s.at)),
-        Record::Event(c) => admit_event(s, after, c),
+        Record::Event(c) => admit_event(s, after, c, 0, false),
+        Record::SitedEvent(c, site) => admit_event(s, after, c, site, true),
         Record::Gate(kind, k, n) => admit_gate(s, after, kind, k, n),
         Record::EventInput(e) => admit_event_input(s, after, e),
         Record::GateInput(g) => admit_gate_input(s, after, g),

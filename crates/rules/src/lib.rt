@@ -18,6 +18,7 @@ pub enum Answer {
     Unused(usize),
     Room,
     Narrow(usize),
+    Sited(usize),
 }
 
 // The paper's number and place of an answer.
@@ -36,6 +37,7 @@ pub fn number(a: Answer) -> u8
         Answer::Unused(_) => 8,
         Answer::Room => 9,
         Answer::Narrow(_) => 21,
+        Answer::Sited(_) => 22,
     }
 }
 
@@ -54,5 +56,6 @@ pub fn place(a: Answer) -> usize
         Answer::Unused(p) => p,
         Answer::Room => 0,
         Answer::Narrow(p) => p,
+        Answer::Sited(p) => p,
     }
 }

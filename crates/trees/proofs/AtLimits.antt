@@ -1,6 +1,7 @@
 -- At each limit a tree is accepted, and one beyond it is refused at the record that goes beyond: of the definitions themselves.
 -- Assumes nothing.
 use mathlib.Core.Path.{_≡_, refl}
+use mathlib.Core.Bool.{true, false}
 use mathlib.Core.List.{List, [], _∷_, _++_, map}
 use Prim.Native.Nat.{ℕ, zero, suc, _+_, _*_, _/_, _%_}
 use Rattle.paper.specs.Limits.{limits, oldLimits, mostBytes}
@@ -10,9 +11,9 @@ use Rattle.rules.specs.Rules.{admitOf, stepOf}
 use Rattle.records.specs.Thresholds.{starvedBy}
 use Rattle.records.specs.Uses.{among, lowestUnused, unusedOf}
 use Rattle.records.specs.Judge.{judge, outcome, run, nextStep, closeOf}
-use Rattle.rules.specs.declared.Answer.the-variants.{Count, Narrow, Reference}
+use Rattle.rules.specs.declared.Answer.the-variants.{OutOfPlace, Count, Narrow, Reference}
 use Rattle.rules.specs.declared.format.Record.{Record}
-use Rattle.rules.specs.declared.format.Record.the-variants.{Event, Gate, EventInput, WideInput}
+use Rattle.rules.specs.declared.format.Record.the-variants.{Event, SitedEvent, Gate, EventInput, WideInput}
 use Rattle.rules.specs.declared.judge.Step.{Step}
 use Rattle.rules.specs.declared.judge.Step.the-variants.{AddEvent, AddGate, AddInput, Refused}
 
@@ -108,13 +109,16 @@ met events gates inputs left next step = record { events = events; gates = gates
 
 -- what it does, at place 9
 abbrev does : Met → Step
-does m = admitOf limits mostBytes (record { at = 9; events = m .events; gates = m .gates; inputs = m .inputs; left = m .left }) (m .next)
+does m = admitOf limits mostBytes (record { at = 9; events = m .events; sited = false; gates = m .gates; inputs = m .inputs; left = m .left }) (m .next)
 
 abbrev steps : List Met
 steps =
     -- the 1,024th event, and the 1,025th
-    met 1023 0 0 0 (Event 5) (AddEvent 5 14)
+    met 1023 0 0 0 (Event 5) (AddEvent 5 0 false 14)
     ∷ met 1024 0 0 0 (Event 5) (Refused (Count 9))
+    -- the first event with a site; one behind events without is out of place before it is one too many
+    ∷ met 0 0 0 0 (SitedEvent 5 65535) (AddEvent 5 65535 true 16)
+    ∷ met 1024 0 0 0 (SitedEvent 5 1) (Refused (OutOfPlace 9))
     -- the last event named by one byte, the first by two, and the last of all
     ∷ met 1024 1 0 1 (EventInput 255) (AddInput 255 11)
     ∷ met 1024 1 0 1 (WideInput 255) (Refused (Narrow 9))

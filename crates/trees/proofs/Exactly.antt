@@ -24,7 +24,7 @@ use Rattle.records.specs.Memory.{memory}
 use Rattle.records.specs.Trees.{Lawful, treeOf}
 use Rattle.records.specs.declared.Event.{Event as EventOf}
 use Rattle.records.specs.declared.uses.Found.the-variants.{Nothing}
-use Rattle.judging.specs.Bytes.{bytesOf, chanceAt}
+use Rattle.judging.specs.Bytes.{bytesOf, heldEvent}
 use Rattle.trees.specs.Exactly.{AreBytes, Accepted, BytesOfLawful, SameTree}
 use Rattle.rules.specs.declared.format.Record.{Record}
 use Rattle.rules.specs.declared.format.Record.the-variants.{End}
@@ -55,8 +55,8 @@ all-used (suc n) i from inputs h = rw (h i (omega arith) (omega arith), lowestUn
 
 none-unused : {b : Book} → Lawful limits b → (x : Book) → SameTree b x → Nothing ≡ unusedBy x
 none-unused {b} l x s =
-    rw (s .events, s .sizes, s .inputs)
-    (unused-none (length (b .events)) (b .sizes) (x .places) (b .inputs)
+    rw (s .sited, s .events, s .sizes, s .inputs)
+    (unused-none (b .sited) (length (b .events)) (b .sizes) (x .places) (b .inputs)
     (all-used (length (b .events)) 0 0 (b .inputs) (λ e low high. rw zero-add (l .eventsUsed e (omega arith))))
     (all-used (length (b .sizes) - 1) 0 gatesFrom (b .inputs) (λ g low high. l .gatesUsed g (omega arith))))
 
@@ -80,9 +80,9 @@ module _ {b : Book} (l : Lawful limits b) where
     event-taken : s .events < memory b .«event_count» → Taken (eventRecord (memory b) (s .events))
     event-taken h =
         let inside : s .events < length (b .events) = omega (arith, events-in b) in
-        let low : chanceAt (memory b) (s .events) ≤ billion = omega (arith, ap (λ (e : EventOf). e .chance) (event-in b (s .events) inside), l .chances (s .events) inside) in
+        let low : heldEvent (memory b) (s .events) .chance ≤ billion = omega (arith, ap (λ (e : EventOf). e .chance) (event-in b (s .events) inside), l .chances (s .events) inside) in
         let few : s .events < limits .events = omega (arith, l .fewEvents) in
-        rw (lt-ltb (s .events) (limits .events) few) (event-welcome s _ (chanceAt (memory b) (s .events)) (v .following .early h .0) few low)
+        rw (lt-ltb (s .events) (limits .events) few) (event-welcome s _ _ _ (memory b .sited) (v .following .early h .0) (v .tells .sited) few low)
 
     -- what the gates so far want
     sum-so-far : sum (take (s .gates) (b .sizes)) ≡ s .inputs + s .left
@@ -127,12 +127,12 @@ module _ {b : Book} (l : Lawful limits b) where
         end-welcome s (length (bytesOf (memory b))) none (omega (arith, ends, length-drop (s .at) (bytesOf (memory b))))
         (omega (arith, events-in b, l .someEvent)) (omega (arith, gates-in b, l .someGate))
 
-    taken : Taken (recordOf true (drop (x .at) (bytesOf (memory b))))
+    taken : Taken (recordOf limits (drop (x .at) (bytesOf (memory b))))
     taken = rw (there (memory b) x v)
         (which (memory b) s Taken event-taken input-taken (λ h none more. gate-taken none more) end-taken)
 
     -- an input leaves the last gate with b's k and the front of b's inputs
-    input-fed : {i next : ℕ} → OnInput (length (bytesOf (memory b))) s (recordOf true (drop (x .at) (bytesOf (memory b)))) i next → starved (addInput x i next) ≡ false
+    input-fed : {i next : ℕ} → OnInput (length (bytesOf (memory b))) s (recordOf limits (drop (x .at) (bytesOf (memory b)))) i next → starved (addInput x i next) ≡ false
     input-fed {i} {next} on =
         let g : ℕ = s .gates - 1 in
         let gates : 1 ≤ s .gates = some-gate (on .some) in
@@ -165,7 +165,7 @@ module _ {b : Book} (l : Lawful limits b) where
     same : SameTree b book
 
   close-ends : (turns : ℕ) (x : Book) → Kept x → Along (memory b) x → nextStep limits own x ≡ Close
-      → Sound (length own) (counts x) (recordOf true (drop (x .at) own)) Close → Ends (suc turns) x
+      → Sound (length own) (counts x) (recordOf limits (drop (x .at) own)) Close → Ends (suc turns) x
   close-ends turns x k v q on =
       let (allEvents, none, allGates) = is-end (memory b) (counts x) (ap tag (sym (there (memory b) x v) ∙ on .shape)) in
       let same : SameTree b x = same-tree l v k (omega (arith, events-in b)) (omega (arith, gates-in b)) none in
@@ -173,10 +173,10 @@ module _ {b : Book} (l : Lawful limits b) where
 
   ends-step : (turns : ℕ) (x : Book) → Kept x → Along (memory b) x → length own - x .at ≤ suc turns
       → ((y : Book) → Kept y → Along (memory b) y → y .at ≤ length own → length own - y .at ≤ turns → Ends (suc turns) y)
-      → (z : Step) → nextStep limits own x ≡ z → Sound (length own) (counts x) (recordOf true (drop (x .at) own)) z → Welcome z → Ends (suc (suc turns)) x
-  ends-step turns x k v h on (AddEvent c next) q s w =
-      let e = on (addEvent x c next) (kept-event k s) (along-event (memory b) x v c next s) (s .inside) (omega (arith, s .further)) in
-      record { book = e .book; is = run-event (suc turns) own x c next q ∙ e .is; same = e .same }
+      → (z : Step) → nextStep limits own x ≡ z → Sound (length own) (counts x) (recordOf limits (drop (x .at) own)) z → Welcome z → Ends (suc (suc turns)) x
+  ends-step turns x k v h on (AddEvent c site sited next) q s w =
+      let e = on (addEvent x c site sited next) (kept-event k s) (along-event (memory b) x v c site sited next s) (s .inside) (omega (arith, s .further)) in
+      record { book = e .book; is = run-event (suc turns) own x c site sited next q ∙ e .is; same = e .same }
   ends-step turns x k v h on (AddGate kind j n next) q s w =
       let e = on (addGate x kind j n next) (kept-gate k (drop (x .at) own) refl s) (along-gate (memory b) x v kind j n next s) (s .inside) (omega (arith, s .further)) in
       record { book = e .book; is = run-gate (suc turns) own x kind j n next q ∙ e .is; same = e .same }
@@ -194,8 +194,8 @@ module _ {b : Book} (l : Lawful limits b) where
   unfolding nextStep
   step-taken x k v a = go (stepOf limits own (counts x)) (rules-take x k v) (sound-step own (counts x) a)
     where
-      go : (z : Step) → Welcome z → Sound (length own) (counts x) (recordOf true (drop (x .at) own)) z → Welcome (thresholdStep x z)
-      go (AddEvent c next) w s = tt
+      go : (z : Step) → Welcome z → Sound (length own) (counts x) (recordOf limits (drop (x .at) own)) z → Welcome (thresholdStep x z)
+      go (AddEvent c site sited next) w s = tt
       go (AddGate kind j n next) w s = tt
       go (AddInput i next) w s = rw (input-fed k v s) tt
       go Close w s = tt
@@ -203,8 +203,8 @@ module _ {b : Book} (l : Lawful limits b) where
 
   -- the last byte is the end record's
   ends-last : (x : Book) → Kept x → Along (memory b) x → x .at ≤ length own → length own - x .at ≤ 0
-      → (z : Step) → nextStep limits own x ≡ z → Sound (length own) (counts x) (recordOf true (drop (x .at) own)) z → Welcome z → Ends 1 x
-  ends-last x k v a h (AddEvent c next) q s w = absurd (omega (arith, s .further, s .inside))
+      → (z : Step) → nextStep limits own x ≡ z → Sound (length own) (counts x) (recordOf limits (drop (x .at) own)) z → Welcome z → Ends 1 x
+  ends-last x k v a h (AddEvent c site sited next) q s w = absurd (omega (arith, s .further, s .inside))
   ends-last x k v a h (AddGate kind j n next) q s w = absurd (omega (arith, s .further, s .inside))
   ends-last x k v a h (AddInput i next) q s w = absurd (omega (arith, s .further, s .inside))
   ends-last x k v a h Close q s w = close-ends 0 x k v q s
@@ -237,4 +237,4 @@ same-tree-of s = rw (s .events, s .kinds, s .leasts, s .sizes, s .inputs)
 -- reading a lawful tree's bytes gives back its arrays, and its tree as the paper has it
 pub lawful-read-back : (b : Book) → Lawful limits b → (c : Book) × (outcome limits (bytesOf (memory b)) ≡ accept c) × (memory c ≡ memory b) × (treeOf c ≡ treeOf b)
 unfolding memory
-lawful-read-back b l = let (c, e, s) = lawful-accepted b l in (c, e, rw (s .events, s .kinds, s .leasts, s .sizes, s .inputs), same-tree-of s)
+lawful-read-back b l = let (c, e, s) = lawful-accepted b l in (c, e, rw (s .events, s .sited, s .kinds, s .leasts, s .sizes, s .inputs), same-tree-of s)

@@ -28,6 +28,10 @@ tenth = 1 ∷ 0x00 ∷ 0xE1 ∷ 0xF5 ∷ 0x05 ∷ []
 abbrev certain : List ℕ
 certain = 1 ∷ 0x00 ∷ 0xCA ∷ 0x9A ∷ 0x3B ∷ []
 
+-- an event of chance 0 at site 513
+abbrev sited : List ℕ
+sited = 0x11 ∷ 0 ∷ 0 ∷ 0 ∷ 0 ∷ 1 ∷ 2 ∷ []
+
 abbrev three : List ℕ
 three = ev ++ (ev ++ ev)
 
@@ -84,13 +88,22 @@ table =
     ∷ row (three ++ (2 ∷ 1 ∷ 8 ∷ 2 ∷ 0 ∷ [])) 21 17
     ∷ row (three ++ (2 ∷ 1 ∷ 8 ∷ 255 ∷ 0 ∷ [])) 21 17
     ∷ row (three ++ (2 ∷ 1 ∷ 8 ∷ 0 ∷ 1 ∷ [])) 6 17
+    -- kind 11: 1, then 3 for a mixture, before 4 and 7, then 7; a site of any number, and the place of 8 by 7 bytes
+    ∷ row (0x11 ∷ 0 ∷ 0 ∷ 0 ∷ 0 ∷ 0 ∷ []) 1 0
+    ∷ row (sited ++ (2 ∷ 1 ∷ 5 ∷ 0 ∷ 7 ∷ [])) 0 0
+    ∷ row (sited ++ (ev ++ (2 ∷ 2 ∷ 5 ∷ 0 ∷ 5 ∷ 1 ∷ 7 ∷ []))) 3 7
+    ∷ row (ev ++ (sited ++ (2 ∷ 2 ∷ 5 ∷ 0 ∷ 5 ∷ 1 ∷ 7 ∷ []))) 3 5
+    ∷ row (ev ++ (0x11 ∷ 0x01 ∷ 0xCA ∷ 0x9A ∷ 0x3B ∷ 0 ∷ 0 ∷ [])) 3 5
+    ∷ row (sited ++ (0x11 ∷ 0x01 ∷ 0xCA ∷ 0x9A ∷ 0x3B ∷ 0 ∷ 0 ∷ [])) 7 7
+    ∷ row (sited ++ (2 ∷ 1 ∷ 5 ∷ 0 ∷ sited)) 3 11
+    ∷ row (sited ++ (sited ++ (sited ++ (2 ∷ 1 ∷ 5 ∷ 0 ∷ 7 ∷ [])))) 8 7
     ∷ []
 
 vectors : map (λ (r : Row). judge limits (r .bytes)) table ≡ map (λ (r : Row). r .answer) table
 unfolding judge outcome run nextStep starvedBy stepOf recordOf bodyOf closeOf unusedOf lowestUnused among
 vectors = refl
 
--- AN OLD READER knows no kind 08, whatever follows it and wherever it stands
+-- AN OLD READER knows no kind 08 and no kind 11, whatever follows it and wherever it stands
 abbrev old-table : List Row
 old-table =
     row case1 0 0
@@ -99,6 +112,8 @@ old-table =
     ∷ row (three ++ (8 ∷ 5 ∷ 0 ∷ [])) 2 15
     ∷ row (three ++ (2 ∷ 1 ∷ 8 ∷ 5 ∷ 0 ∷ [])) 2 17
     ∷ row (three ++ (2 ∷ 1 ∷ 8 ∷ 0 ∷ 1 ∷ [])) 2 17
+    ∷ row (sited ++ (2 ∷ 1 ∷ 5 ∷ 0 ∷ 7 ∷ [])) 2 0
+    ∷ row (ev ++ sited) 2 5
     ∷ []
 
 old-vectors : map (λ (r : Row). judge oldLimits (r .bytes)) old-table ≡ map (λ (r : Row). r .answer) old-table

@@ -1,6 +1,7 @@
 -- The reading of a lawful tree's own bytes: what is read so far is the front of each of its lists.
 -- Assumes nothing.
 use mathlib.Core.Path.{_≡_, refl, sym, ap, _∙_}
+use mathlib.Core.Bool.{Bool, true, false}
 use mathlib.Core.List.{List, _++_, [], _∷_}
 use Prim.Native.Nat.{ℕ, zero, suc, _+_, _≤_, _<_}
 use native.Mathlib.Omega.{arith}
@@ -13,7 +14,8 @@ use Rattle.paper.specs.Lists.{sum}
 use Rattle.records.specs.Judge.{Book}
 use Rattle.records.specs.Memory.{tabulate, noEvent, memory}
 use Rattle.records.specs.Trees.{Lawful}
-use Rattle.judging.specs.Bytes.{toldLeast}
+use Rattle.judging.specs.Bytes.{heldEvent, toldLeast, toldEvent}
+use Rattle.records.specs.declared.Event.{Event}
 use Rattle.trees.specs.Exactly.{SameTree}
 use Rattle.rules.proofs.Cases.{if-elim}
 use Rattle.records.proofs.Pad.{pad-getD}
@@ -33,6 +35,10 @@ tabulate-take xs d f (suc k) h e =
 told-least : (kind k : ℕ) → ((kind ≡ 4 → ⊥) → k ≡ 0) → toldLeast kind k ≡ k
 told-least kind k plain = if-elim (λ (x : ℕ). x ≡ k) (eqb kind 4) (λ _. refl) (λ e. sym (plain (eqb-false kind 4 e)))
 
+told-event : (sited : Bool) (x : Event) → (sited ≡ false → x .site ≡ 0) → toldEvent sited x ≡ x
+told-event true x plain = refl
+told-event false x plain = λ i. record { chance = x .chance; site = sym (plain refl) i }
+
 -- ---- a book in memory
 
 module _ (b : Book) where
@@ -43,6 +49,10 @@ module _ (b : Book) where
   pub gates-in : memory b .«gate_count» ≡ length (b .sizes)
   unfolding memory
   gates-in = refl
+
+  pub sited-in : memory b .sited ≡ b .sited
+  unfolding memory
+  sited-in = refl
 
   pub event-in : (e : ℕ) → e < length (b .events) → getD (memory b .events) e noEvent ≡ getD (b .events) e noEvent
   unfolding memory
@@ -75,7 +85,10 @@ module _ {b : Book} (l : Lawful limits b) {x : Book} (v : Along (memory b) x) wh
 
   front-events : x .events ≡ take (length (x .events)) (b .events)
   front-events = v .tells .events
-      ∙ tabulate-take (b .events) noEvent (λ e. getD (memory b .events) e noEvent) (length (x .events)) few-events (λ e h. event-in b e (omega (arith, few-events)))
+      ∙ tabulate-take (b .events) noEvent (λ e. toldEvent (memory b .sited) (heldEvent (memory b) e)) (length (x .events)) few-events
+      (λ e h.
+      let inside : e < length (b .events) = omega (arith, few-events) in
+      rw (sited-in b, event-in b e inside) (told-event (b .sited) (getD (b .events) e noEvent) (λ plain. l .sites plain e inside)))
 
   pub front-kinds : x .kinds ≡ take (length (x .sizes)) (b .kinds)
   front-kinds = v .tells .kinds
@@ -108,6 +121,7 @@ module _ {b : Book} (l : Lawful limits b) {x : Book} (v : Along (memory b) x) wh
     pub same-tree : SameTree b x
     same-tree = record {
       events = front-events ∙ take-all (length (x .events)) (b .events) allEvents;
+      sited = v .tells .sited (omega (arith, l .someEvent)) ∙ sited-in b;
       kinds = front-kinds ∙ take-all (length (x .sizes)) (b .kinds) (omega (arith, allGates, l .sameKinds));
       leasts = front-leasts ∙ take-all (length (x .sizes)) (b .leasts) (omega (arith, allGates, l .sameLeasts));
       sizes = whole-sizes;

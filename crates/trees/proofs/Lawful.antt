@@ -14,6 +14,7 @@ use Rattle.paper.specs.Limits.{limits}
 use Rattle.paper.specs.Lists.{sum}
 use Rattle.paper.specs.Trees.{Input, event, Gate, events, InputBelow, InputsBelow, GateBelow, TreeBelow}
 use Rattle.paper.specs.Flat.{gatesFrom, inputOf, gateOf, gatesOf}
+use Rattle.rules.specs.Format.{eventLength}
 use Rattle.records.specs.Uses.{among, lowestUnused, unusedOf}
 use Rattle.rules.specs.Rules.{wrongK, Fits}
 use Rattle.records.specs.Judge.{Book, accept, outcome}
@@ -44,17 +45,17 @@ used-each (suc n) i from inputs e x low high =
     (λ q. used-each n (i + 1) from inputs on x (omega (arith, ltb-true i x q)) (omega arith))
     (λ q. let same : x ≡ i = omega (arith, ltb-false i x q) in rw same here)
 
-nothing-unused : (n : ℕ) (sizes places inputs : List ℕ) → unusedOf n sizes places inputs ≡ Nothing
+nothing-unused : (sited : Bool) (n : ℕ) (sizes places inputs : List ℕ) → unusedOf sited n sizes places inputs ≡ Nothing
     → (lowestUnused n 0 0 inputs ≡ Nothing) × (lowestUnused (length sizes - 1) 0 gatesFrom inputs ≡ Nothing)
 unfolding unusedOf
-nothing-unused n sizes places inputs e = first (lowestUnused n 0 0 inputs) refl
+nothing-unused sited n sizes places inputs e = first (lowestUnused n 0 0 inputs) refl
   where
     second : lowestUnused n 0 0 inputs ≡ Nothing → (f : Found) → lowestUnused (length sizes - 1) 0 gatesFrom inputs ≡ f → (lowestUnused n 0 0 inputs ≡ Nothing) × (lowestUnused (length sizes - 1) 0 gatesFrom inputs ≡ Nothing)
     second p (At g) q = let d : At (getD places g 0) ≡ Nothing = rw (p, q, unusedOf) at e in let z : _≡_ {A = ℕ} 0 1 = cc in absurd (omega arith)
     second p Nothing q = (p, q)
 
     first : (f : Found) → lowestUnused n 0 0 inputs ≡ f → (lowestUnused n 0 0 inputs ≡ Nothing) × (lowestUnused (length sizes - 1) 0 gatesFrom inputs ≡ Nothing)
-    first (At i) q = let d : At (5 * i) ≡ Nothing = rw (q, unusedOf) at e in let z : _≡_ {A = ℕ} 0 1 = cc in absurd (omega arith)
+    first (At i) q = let d : At (eventLength sited * i) ≡ Nothing = rw (q, unusedOf) at e in let z : _≡_ {A = ℕ} 0 1 = cc in absurd (omega arith)
     first Nothing q = second q (lowestUnused (length sizes - 1) 0 gatesFrom inputs) refl
 
 right-k : (kind k n : ℕ) → wrongK kind k n ≡ false → kind ≡ 4 → (1 ≤ k) × (k ≤ n)
@@ -72,7 +73,7 @@ lawful-closed {b = b} v =
     let all : sum (b .sizes) ≡ length (b .inputs) = omega (arith, k .wanted, v .close .none) in
     let upto : (g : ℕ) → g < length (b .sizes) → sum (take g (b .sizes)) + getD (b .sizes) g 0 ≤ length (b .inputs) = λ g h.
     omega (arith, all, sum-take (b .sizes) g h, sum-rises (b .sizes) (g + 1) (length (b .sizes)) (omega arith), ap sum (take-all (length (b .sizes)) (b .sizes) (omega arith))) in
-    let used = nothing-unused (length (b .events)) (b .sizes) (b .places) (b .inputs) (v .used) in
+    let used = nothing-unused (b .sited) (length (b .events)) (b .sizes) (b .places) (b .inputs) (v .used) in
     record {
       someEvent = v .close .someEvent;
       someGate = v .close .someGate;
@@ -83,6 +84,7 @@ lawful-closed {b = b} v =
       allInputs = all;
       fewInputs = omega (arith, k .fewInputs);
       chances = k .chances;
+      sites = k .sites;
       kinds = λ g h. k .kinds g (omega (arith, k .sameKinds));
       sizes = k .sizes;
       leasts = λ g h q. right-k _ _ _ (k .right g h (upto g h)) q;
@@ -94,7 +96,7 @@ lawful-closed {b = b} v =
     }
 
 pub lawful : (bytes : List ℕ) (b : Book) → outcome limits bytes ≡ accept b → Lawful limits b
-lawful bytes b e = lawful-closed (accepted-keeps bytes (λ _. Unit {0}) (λ b c next k p on. tt) (λ b kind least n next k p on. tt) (λ b i next k p on. tt) b tt e)
+lawful bytes b e = lawful-closed (accepted-keeps bytes (λ _. Unit {0}) (λ b c site sited next k p on. tt) (λ b kind least n next k p on. tt) (λ b i next k p on. tt) b tt e)
 
 -- so k is at most the number of inputs
 pub least-few : {b : Book} → Lawful limits b → (g : ℕ) → g < length (b .sizes) → getD (b .kinds) g 0 ≡ 4 → getD (b .leasts) g 0 ≤ getD (b .sizes) g 0

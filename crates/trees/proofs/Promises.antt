@@ -1,25 +1,26 @@
 -- What the contracts of `read` and `write` come to: each outcome is the only one, a done reading is a lawful tree, both ways round give back
--- what went in, no accepted tree is longer than 18,689 bytes, and the program's 20,480 bytes decide.
+-- what went in, no accepted tree is longer than 20,737 bytes, and the program's 24,576 bytes decide.
 -- Assumes nothing.
 use mathlib.Core.Path.{_≡_, refl, sym, ap, _∙_}
 use mathlib.Core.Bool.{true}
 use mathlib.Core.List.{List, _++_}
-use Prim.Native.Nat.{ℕ, zero, suc, _+_, _≤_, _<_}
+use Prim.Native.Nat.{ℕ, zero, suc, _+_, _*_, _≤_, _<_}
 use native.Mathlib.Omega.{arith}
 use lib.ListN.{length, getD, take, drop}
 use lib.Seq.{take-at}
 use lib.Dec.{ltb}
 use borrow.Author.Tests.{ltb-true, ltb-false}
 use Rattle.paper.specs.Limits.{limits, mostBytes}
-use Rattle.rules.specs.Format.{recordOf}
+use Rattle.rules.specs.Format.{lengthOf, recordOf}
 use Rattle.rules.specs.Longest.{longestTree}
 use Rattle.records.specs.Judge.{Book, start, counts, addEvent, addGate, addInput, nextStep, Outcome, accept, refuse, unusedBy, closeOf, run, outcome}
 use Rattle.records.specs.Memory.{memory, inMemory}
 use Rattle.judging.specs.Bytes.{bytesOf, told}
+use Rattle.writing.specs.Sites.{lostSite}
 use Rattle.writing.specs.Writes.{Wrote, wrote, writeOf}
 use Rattle.records.specs.Trees.{Lawful}
 use Rattle.rules.specs.declared.Answer.{Answer}
-use Rattle.rules.specs.declared.Answer.the-variants.{Done, Cut, Unused, Room}
+use Rattle.rules.specs.declared.Answer.the-variants.{Done, Cut, Unused, Room, Sited}
 use Rattle.records.specs.declared.Reading.{Reading}
 use Rattle.records.specs.declared.Tree.{Tree}
 use Rattle.rules.specs.declared.judge.Step.{Step}
@@ -68,8 +69,8 @@ module _ (bytes : List ℕ) (o : Outcome) where
 
   honest-step : (turns : ℕ) (b : Book) → ((x : Book) → x .at ≤ length bytes → run limits turns bytes x ≡ o → Honest)
       → run limits (suc turns) bytes b ≡ o → (x : Step) → nextStep limits bytes b ≡ x
-      → Sound (length bytes) (counts b) (recordOf true (drop (b .at) bytes)) x → Honest
-  honest-step turns b on e (AddEvent c next) q s = on (addEvent b c next) (s .inside) (sym (run-event turns bytes b c next q) ∙ e)
+      → Sound (length bytes) (counts b) (recordOf limits (drop (b .at) bytes)) x → Honest
+  honest-step turns b on e (AddEvent c site sited next) q s = on (addEvent b c site sited next) (s .inside) (sym (run-event turns bytes b c site sited next q) ∙ e)
   honest-step turns b on e (AddGate kind k n next) q s = on (addGate b kind k n next) (s .inside) (sym (run-gate turns bytes b kind k n next q) ∙ e)
   honest-step turns b on e (AddInput i next) q s = on (addInput b i next) (s .inside) (sym (run-input turns bytes b i next q) ∙ e)
   honest-step turns b on e Close q s = honest-close b (sym (run-close turns bytes b q) ∙ e)
@@ -118,14 +119,21 @@ write-then-read t room {w} {r} q d e = go (outcome limits (bytesOf t)) refl
         let front : take (w .bytes) (w .room) ≡ bytesOf t = rw x (take-at (bytesOf t) (drop (length (bytesOf t)) room) (length (bytesOf t)) refl) in
         e ∙ ap (λ (l : List ℕ). inMemory (outcome limits l)) front ∙ ap inMemory p ∙ ap (λ (x : Tree). record { answer = Done; tree = x }) (read-told t b p)
 
-    go : (o : Outcome) → outcome limits (bytesOf t) ≡ o → r ≡ record { answer = Done; tree = told t }
-    go (accept b) p =
+    kept : (b : Book) → outcome limits (bytesOf t) ≡ accept b → (f : Found) → lostSite t ≡ f → r ≡ record { answer = Done; tree = told t }
+    kept b p (At i) k =
+        let x : w ≡ wrote (Sited (lengthOf 1 * i)) 0 room = q ∙ rw (p, k, writeOf) in
+        let y : Done ≡ Sited (lengthOf 1 * i) = sym d ∙ ap (λ (v : Wrote). v .answer) x in
+        let z : _≡_ {A = ℕ} 0 1 = cc in absurd (omega arith)
+    kept b p Nothing k =
         either (ltb (length room) (length (bytesOf t)))
         (λ s.
-        let x : w ≡ wrote Room 0 room = q ∙ sym (writes-short t room (b, p) (ltb-true (length room) (length (bytesOf t)) s)) in
+        let x : w ≡ wrote Room 0 room = q ∙ sym (writes-short t room (b, p) k (ltb-true (length room) (length (bytesOf t)) s)) in
         let y : Done ≡ Room = sym d ∙ ap (λ (v : Wrote). v .answer) x in
         let z : _≡_ {A = ℕ} 0 1 = cc in absurd (omega arith))
-        (λ s. back b p (q ∙ sym (writes-done t room (b, p) (ltb-false (length room) (length (bytesOf t)) s) refl refl)))
+        (λ s. back b p (q ∙ sym (writes-done t room (b, p) k (ltb-false (length room) (length (bytesOf t)) s) refl refl)))
+
+    go : (o : Outcome) → outcome limits (bytesOf t) ≡ o → r ≡ record { answer = Done; tree = told t }
+    go (accept b) p = kept b p (lostSite t) refl
     go (refuse a) p =
         let x : w ≡ wrote a 0 room = q ∙ rw (p, writeOf) in
         absurd (honest (bytesOf t) (refuse a) (length (bytesOf t) + 1) start (omega arith) p a refl (sym (ap (λ (v : Wrote). v .answer) x) ∙ d))

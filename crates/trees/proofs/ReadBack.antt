@@ -1,7 +1,7 @@
 -- The bytes of a tree, where they are accepted, are read as the tree that they tell.
 -- Assumes nothing.
 use mathlib.Core.Path.{_≡_, refl, sym, ap, _∙_}
-use mathlib.Core.Bool.{true}
+use mathlib.Core.Bool.{Bool, true}
 use mathlib.Core.List.{List}
 use Prim.Native.Nat.{ℕ, _≤_, _<_}
 use native.Mathlib.Omega.{arith}
@@ -13,15 +13,15 @@ use Rattle.rules.specs.Format.{recordOf}
 use Rattle.paper.specs.Flat.{gatesFrom}
 use Rattle.records.specs.Judge.{Book, start, counts, addEvent, addGate, addInput, accept, outcome}
 use Rattle.records.specs.Memory.{memory}
-use Rattle.judging.specs.Bytes.{bytesOf, chanceAt, told}
+use Rattle.judging.specs.Bytes.{bytesOf, told}
 use Rattle.judging.specs.Inner.{Own}
 use Rattle.records.specs.declared.Tree.{Tree}
 use Rattle.rules.specs.declared.judge.State.{State}
 use Rattle.rules.proofs.Cases.{if-elim}
-use Rattle.judging.proofs.Coding.{own-unknown, own-end, own-event, own-and, own-or, own-least, own-event-input, own-wide-input, own-gate-input}
+use Rattle.judging.proofs.Coding.{own-unknown, own-end, own-in, own-and, own-or, own-least, own-event-input, own-wide-input, own-gate-input}
 use Rattle.records.proofs.Pad.{length-▷}
 use Rattle.rules.proofs.Steps.{OnEvent, OnGate, OnInput, codeOf}
-use Rattle.judging.proofs.Rest.{nextRecord, which, is-event, is-end, tag, gate-told}
+use Rattle.judging.proofs.Rest.{nextRecord, which, is-event, is-end, tag, tag-in, gate-told}
 use Rattle.trees.proofs.Telling.{Tells, tells-start, tells-event, tells-gate, tells-input, tells-all, event-told, input-told}
 use Rattle.judging.proofs.Following.{Following, follow-start, follow-event, follow-gate, follow-input, at-event, at-gate, at-input, read-back}
 use Rattle.records.proofs.Runs.{accepted-keeps}
@@ -32,7 +32,7 @@ own-next t s =
     let kind : ℕ = getD (t .kinds) (s .gates) 0 in
     let code : ℕ = getD (t .inputs) (s .inputs) 0 in
     which t s Own
-    (λ _. if-elim Own (ltb (s .events) (limits .events)) (λ _. own-event _) (λ _. own-event 0))
+    (λ _. if-elim Own (ltb (s .events) (limits .events)) (λ _. own-in (t .sited) _ _) (λ _. own-in (t .sited) 0 0))
     (λ _ _. if-elim Own (ltb code wideFrom) (λ _. own-event-input _)
     (λ _. if-elim Own (ltb code gatesFrom) (λ _. own-wide-input _) (λ _. own-gate-input _)))
     (λ _ _ _. if-elim Own (ltb (s .gates) (limits .gates))
@@ -57,21 +57,21 @@ module _ (t : Tree) where
   along-start = record { following = follow-start t; tells = tells-start t; someEvents = omega arith; someGates = omega arith }
 
   module _ (b : Book) (v : Along b) where
-    pub there : recordOf true (drop (b .at) bytes) ≡ nextRecord t (counts b)
+    pub there : recordOf limits (drop (b .at) bytes) ≡ nextRecord t (counts b)
     there = read-back (v .following) refl (own-next t (counts b))
 
-    pub along-event : (c next : ℕ) → OnEvent (length bytes) (counts b) (recordOf true (drop (b .at) bytes)) c next → Along (addEvent b c next)
-    along-event c next on =
-        let chance : chanceAt t (length (b .events)) ≡ c = event-told t (length (b .events)) c (on .few) (sym (at-event (v .following) there on) ∙ on .shape) in
-        let less : length (b .events) < t .«event_count» = is-event t (counts b) (ap tag (sym there ∙ on .shape)) in
+    pub along-event : (c site : ℕ) (sited : Bool) (next : ℕ) → OnEvent (length bytes) (counts b) (recordOf limits (drop (b .at) bytes)) c site sited next → Along (addEvent b c site sited next)
+    along-event c site sited next on =
+        let event = event-told t (length (b .events)) c site sited (on .few) (on .plain) (sym (at-event (v .following) there on) ∙ on .shape) in
+        let less : length (b .events) < t .«event_count» = is-event t (counts b) (ap tag (sym there ∙ on .shape) ∙ tag-in sited c site) in
         record {
           following = rw length-▷ (follow-event (v .following) there on);
-          tells = tells-event (v .tells) c next (ap (λ (x : ℕ). record { chance = x }) (sym chance));
+          tells = tells-event (v .tells) c site sited next event;
           someEvents = rw length-▷ (omega arith);
           someGates = v .someGates;
         }
 
-    pub along-gate : (kind k n next : ℕ) → OnGate (length bytes) (counts b) (recordOf true (drop (b .at) bytes)) kind k n next → Along (addGate b kind k n next)
+    pub along-gate : (kind k n next : ℕ) → OnGate (length bytes) (counts b) (recordOf limits (drop (b .at) bytes)) kind k n next → Along (addGate b kind k n next)
     along-gate kind k n next on =
         let (h, more, is) = at-gate (v .following) there on in
         let (kinds, leasts, size) = gate-told t (length (b .sizes)) kind k n (on .few) (sym is ∙ on .shape) in
@@ -82,7 +82,7 @@ module _ (t : Tree) where
           someGates = rw length-▷ (omega arith);
         }
 
-    pub along-input : (i next : ℕ) → OnInput (length bytes) (counts b) (recordOf true (drop (b .at) bytes)) i next → Along (addInput b i next)
+    pub along-input : (i next : ℕ) → OnInput (length bytes) (counts b) (recordOf limits (drop (b .at) bytes)) i next → Along (addInput b i next)
     along-input i next on =
         let (h, is) = at-input (v .following) there on in
         record {
@@ -94,6 +94,6 @@ module _ (t : Tree) where
 
   pub read-told : (b : Book) → outcome limits bytes ≡ accept b → memory b ≡ told t
   read-told b e =
-      let v = accepted-keeps bytes Along (λ b c next k p on. along-event b p c next on) (λ b kind least n next k p on. along-gate b p kind least n next on) (λ b i next k p on. along-input b p i next on) b along-start e in
+      let v = accepted-keeps bytes Along (λ b c site sited next k p on. along-event b p c site sited next on) (λ b kind least n next k p on. along-gate b p kind least n next on) (λ b i next k p on. along-input b p i next on) b along-start e in
       let (allEvents, none, allGates) = is-end t (counts b) (ap tag (sym (there b (v .holds)) ∙ v .close .shape)) in
-      tells-all (v .holds .tells) (le-antisymm (v .holds .someEvents) allEvents) (le-antisymm (v .holds .someGates) allGates) (omega (arith, v .kept .wanted))
+      tells-all (v .holds .tells) (v .close .someEvent) (le-antisymm (v .holds .someEvents) allEvents) (le-antisymm (v .holds .someGates) allGates) (omega (arith, v .kept .wanted))

@@ -1,14 +1,16 @@
 -- When a record is not refused: what the rules ask of the state, of the record's numbers, and of nothing else.
 -- Assumes nothing.
 use mathlib.Core.Path.{_≡_, refl}
-use mathlib.Core.Bool.{Bool, false}
+use mathlib.Core.Bool.{Bool, true, false}
 use Prim.Native.Nat.{ℕ, _+_, _-_, _≤_, _<_}
 use native.Mathlib.Omega.{arith}
 use lib.Dec.{ltb, leb, eqb}
 use borrow.Author.Tests.{ltb-true, ltb-false, leb-true, eqb-true, eqb-false, le-ltb, ne-eqb}
 use Rattle.paper.specs.Limits.{limits, wideFrom, billion}
 use Rattle.paper.specs.Flat.{gatesFrom}
-use Rattle.rules.specs.Rules.{wrongK, eventStep, gateStep, endStep, admitOf, Fits}
+use Rattle.rules.specs.Rules.{wrongK, mixed, eventStep, gateStep, endStep, admitOf, Fits}
+use Rattle.rules.specs.Choice.{if_then_else_}
+use Rattle.rules.specs.Format.{eventIn}
 use Rattle.judging.specs.Bytes.{inputRecord, gateRecord}
 use Rattle.rules.specs.declared.format.Record.{Record}
 use Rattle.rules.specs.declared.judge.State.{State}
@@ -17,7 +19,7 @@ use Rattle.rules.specs.declared.judge.Step.the-variants.{AddEvent, AddGate, Add
 use Rattle.rules.proofs.Cases.{if-elim}
 
 abbrev pub Welcome : Step → Type 0
-Welcome (AddEvent c next) = Unit {0}
+Welcome (AddEvent c site sited next) = Unit {0}
 Welcome (AddGate kind k n next) = Unit {0}
 Welcome (AddInput i next) = Unit {0}
 Welcome Close = Unit {0}
@@ -31,12 +33,25 @@ not-wrong kind k n h =
     (λ e. let (low, high) = h (eqb-true kind 4 e) in rw (ne-eqb k 0 (λ z. omega arith)) (le-ltb n k high))
     (λ _. refl)
 
+-- an event of the form of those before it
+form-kept : (a b : Bool) → a ≡ b → (if a then (if b then false else true) else b) ≡ false
+form-kept true true e = refl
+form-kept true false e = let z : _≡_ {A = ℕ} 0 1 = cc in absurd (omega arith)
+form-kept false true e = let z : _≡_ {A = ℕ} 0 1 = cc in absurd (omega arith)
+form-kept false false e = refl
+
+pub not-mixed : (s : State) (sited : Bool) → (0 < s .events → s .sited ≡ sited) → mixed s sited ≡ false
+not-mixed s sited same =
+    if-elim (λ (x : Bool). x ≡ false) (eqb (s .events) 0) (λ _. refl) (λ e. form-kept (s .sited) sited (same (omega (arith, eqb-false (s .events) 0 e))))
+
 module _ (s : State) (after : ℕ) where
-  pub event-welcome : (c : ℕ) → s .gates ≡ 0 → s .events < limits .events → c ≤ billion → Welcome (eventStep limits s after c)
-  event-welcome c none few h =
-      if-elim Welcome (ltb 0 (s .gates)) (λ e. absurd (omega (arith, ltb-true 0 (s .gates) e)))
+  event-fits : (c site : ℕ) (sited : Bool) → s .gates ≡ 0 → (0 < s .events → s .sited ≡ sited) → s .events < limits .events → c ≤ billion
+      → Welcome (eventStep limits s after c site sited)
+  event-fits c site sited none same few h =
+      rw (not-mixed s sited same)
+      (if-elim Welcome (ltb 0 (s .gates)) (λ e. absurd (omega (arith, ltb-true 0 (s .gates) e)))
       (λ _. if-elim Welcome (leb (limits .events) (s .events)) (λ e. absurd (omega (arith, leb-true (limits .events) (s .events) e)))
-      (λ _. if-elim Welcome (ltb billion c) (λ e. absurd (omega (arith, ltb-true billion c e))) (λ _. tt)))
+      (λ _. if-elim Welcome (ltb billion c) (λ e. absurd (omega (arith, ltb-true billion c e))) (λ _. tt))))
 
   pub gate-welcome : (kind k n : ℕ) → s .left ≡ 0 → s .gates < limits .gates → 1 ≤ n → n ≤ limits .inputs → s .inputs + n ≤ limits .inAll
       → Welcome (gateStep limits s after kind k n)
@@ -48,6 +63,11 @@ module _ (s : State) (after : ℕ) where
       (λ _. if-elim Welcome (ltb (limits .inAll) (s .inputs + n)) (λ e. absurd (omega (arith, ltb-true (limits .inAll) (s .inputs + n) e))) (λ _. tt)))))
 
 module _ (s : State) (len : ℕ) where
+  pub event-welcome : (c site : ℕ) (sited : Bool) → s .gates ≡ 0 → (0 < s .events → s .sited ≡ sited) → s .events < limits .events → c ≤ billion
+      → Welcome (admitOf limits len s (eventIn sited c site))
+  event-welcome c site true none same few h = event-fits s _ c site true none same few h
+  event-welcome c site false none same few h = event-fits s _ c 0 false none same few h
+
   -- an input that fits the last gate
   pub input-welcome : (code : ℕ) → 0 < s .left → 0 < s .gates → Fits (s .events) (s .gates - 1) code → Welcome (admitOf limits len s (inputRecord code))
   input-welcome code some gates fits =

@@ -27,6 +27,7 @@ pub record BytesOfLawful (bytes : List ℕ) : Type 0 where
 -- two books that tell the same tree
 pub record SameTree (b c : Book) : Type 0 where
   pub events : c .events ≡ b .events
+  pub sited : c .sited ≡ b .sited
   pub kinds : c .kinds ≡ b .kinds
   pub leasts : c .leasts ≡ b .leasts
   pub sizes : c .sizes ≡ b .sizes

@@ -1,7 +1,7 @@
 -- Where the loop of `emit` stands: the room's front holds the tree's bytes up to the next record.
 -- Assumes nothing.
 use mathlib.Core.Path.{_≡_, refl, sym, ap, _∙_}
-use mathlib.Core.Bool.{false}
+use mathlib.Core.Bool.{Bool, false}
 use mathlib.Core.List.{List, [], _++_, append-assoc, append-nil}
 use Prim.Native.Nat.{ℕ, _+_, _-_, _≤_}
 use native.Mathlib.Omega.{arith}
@@ -84,10 +84,10 @@ module _ {t : Tree} {old room : List ℕ} {s : State} (v : Emitting t old room s
       pub emit-sound : {x : Step} → x ≡ admitOf limits (s .at + widthOf r) s r → Sound (length (bytesOf t)) s r x
       emit-sound q = rw (read-back (v .following) e own) at (running-sound (v .running) (step q))
 
-      pub emit-event : (c next : ℕ) → AddEvent c next ≡ admitOf limits (s .at + widthOf r) s r → Emitting t old (lent room (s .at) ys) (pastEvent s next)
-      emit-event c next q =
+      pub emit-event : (c site : ℕ) (sited : Bool) (next : ℕ) → AddEvent c site sited next ≡ admitOf limits (s .at + widthOf r) s r → Emitting t old (lent room (s .at) ys) (pastEvent s sited next)
+      emit-event c site sited next q =
           let on = emit-sound q in
-          record { running = running-event (v .running) c next (step q); following = follow-event (v .following) e on; written = rw (on .place) emit-put; fits = v .fits }
+          record { running = running-event (v .running) c site sited next (step q); following = follow-event (v .following) e on; written = rw (on .place) emit-put; fits = v .fits }
 
       pub emit-gate : (kind k n next : ℕ) → AddGate kind k n next ≡ admitOf limits (s .at + widthOf r) s r → Emitting t old (lent room (s .at) ys) (pastGate s n next)
       emit-gate kind k n next q =

@@ -1,3 +1,4 @@
 pub mod Stores
+pub mod Seeking
 pub mod Emitting
 pub mod Writing

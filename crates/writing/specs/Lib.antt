@@ -1,1 +1,3 @@
+pub mod Sites
 pub mod Writes
+pub mod Inner

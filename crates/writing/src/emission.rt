@@ -11,12 +11,24 @@ use rules::judge::past_event;
 use rules::judge::past_gate;
 use rules::judge::past_input;
 ghost use mathlib.Core.Path.{_≡_};
-ghost use mathlib.Core.List.{_++_};
-ghost use Prim.Native.Nat.{_≤_};
+ghost use mathlib.Core.List.{_∷_, _++_};
+ghost use Prim.Native.Nat.{_/_, _%_, _≤_};
 ghost use lib.ListN.{length, drop};
 ghost use Rattle.rules.specs.Format.{widthOf, encode};
 ghost use Rattle.judging.specs.Bytes.{bytesOf};
 ghost use Rattle.judging.specs.Inner.{Accepted};
+
+// Writes the kind of an event's record and its chance.
+fn put_event(b: &mut [u8], kind: u8, c: u32)
+    requires { ⌜ 5 ≤ length (now b) ⌝ }
+    ensures { λ _. ⌜ now (b .exit) ≡ kind ∷ c % 256 ∷ c / 256 % 256 ∷ c / 65536 % 256 ∷ c / 16777216 ∷ drop 5 (now (b .entry)) ⌝ }
+{
+    b[0] = kind;
+    b[1] = (c % 256) as u8;
+    b[2] = (c / 256 % 256) as u8;
+    b[3] = (c / 65536 % 256) as u8;
+    b[4] = (c / 16777216) as u8;
+}
 
 fn put_gate(b: &mut [u8], kind: u8, k: u8, n: u8)
     requires { ⌜ widthOf (Record.Gate kind k n) ≤ length (now b) ⌝ }
@@ -39,11 +51,12 @@ pub fn put(b: &mut [u8], r: Record)
 {
     match r {
         Record::Event(c) => {
-            b[0] = 1;
-            b[1] = (c % 256) as u8;
-            b[2] = (c / 256 % 256) as u8;
-            b[3] = (c / 65536 % 256) as u8;
-            b[4] = (c / 16777216) as u8;
+            put_event(b, 1, c);
+        }
+        Record::SitedEvent(c, site) => {
+            put_event(b, 17, c);
+            b[5] = (site % 256) as u8;
+            b[6] = (site / 256) as u8;
         }
         Record::Gate(kind, k, n) => {
             put_gate(b, kind, k, n);
@@ -86,7 +99,8 @@ pub fn emit(t: Tree, room: &mut [u8])
         let r = tree_record(
             t.event_count,
             t.gate_count,
-            e.chance,
+            t.sited,
+            e,
             &t.kinds,
             &t.leasts,
             &t.sizes,
@@ -95,7 +109,7 @@ pub fn emit(t: Tree, room: &mut [u8])
         );
         put(&mut room[at..], r);
         match admit(s, at + width(r), r) {
-            Step::AddEvent(_, after) => s = past_event(s, after),
+            Step::AddEvent(_, _, sited, after) => s = past_event(s, sited, after),
             Step::AddGate(_, _, size, after) => s = past_gate(s, size, after),
             Step::AddInput(_, after) => s = past_input(s, after),
             Step::Close => {

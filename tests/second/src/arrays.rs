@@ -1,4 +1,4 @@
-//! A tree as the library takes it: five arrays, with anything behind what the tree tells.
+//! A tree as the library takes it: six arrays, with anything behind what the tree tells.
 
 use crate::driver::{Area, Request};
 use crate::tree::*;
@@ -6,6 +6,7 @@ use crate::tree::*;
 #[derive(Clone, PartialEq, Eq)]
 pub struct Arrays {
     chances: Vec<u32>,
+    sites: Vec<u16>,
     kinds: Vec<u8>,
     leasts: Vec<u8>,
     sizes: Vec<u8>,
@@ -19,6 +20,7 @@ impl Arrays {
         let bytes = |more: usize| -> Vec<u8> { (0..MOST_GATES).map(|gate| dirt(gate + more) as u8).collect() };
         Arrays {
             chances: (0..MOST_EVENTS).map(|event| dirt(event) as u32).collect(),
+            sites: (0..MOST_EVENTS).map(|event| dirt(event + 3_000) as u16).collect(),
             kinds: bytes(0),
             leasts: bytes(1_000),
             sizes: bytes(2_000),
@@ -27,12 +29,13 @@ impl Arrays {
     }
 
     /// A tree with dirt behind what it tells: its counts may exceed its lists, as everywhere here, and then stand for
-    /// events of chance 0, gates of no input, and inputs of event 0.
+    /// events of chance 0 and site 0, gates of no input, and inputs of event 0.
     pub fn of(tree: &Tree, seed: u64) -> Arrays {
         let mut arrays = Arrays::dirty(seed);
         let told = |count: u64, most: usize| count.min(most as u64) as usize;
         for event in 0..told(tree.event_count, MOST_EVENTS) {
             arrays.chances[event] = tree.chance(event as u64);
+            arrays.sites[event] = tree.site(event as u64);
         }
         let byte = |number: u32| u8::try_from(number).expect("a gate's numbers are bytes");
         let mut inputs = 0;
@@ -51,13 +54,14 @@ impl Arrays {
     }
 
     pub fn lend(&self, request: Request) -> Request {
-        let request = request.numbers(&self.chances).bytes(&self.kinds).bytes(&self.leasts);
+        let request = request.numbers(&self.chances).halves(&self.sites).bytes(&self.kinds).bytes(&self.leasts);
         request.bytes(&self.sizes).halves(&self.inputs)
     }
 
-    pub fn areas(&mut self) -> [Area<'_>; 5] {
+    pub fn areas(&mut self) -> [Area<'_>; 6] {
         [
             Area::Numbers(&mut self.chances),
+            Area::Halves(&mut self.sites),
             Area::Bytes(&mut self.kinds),
             Area::Bytes(&mut self.leasts),
             Area::Bytes(&mut self.sizes),
@@ -65,12 +69,15 @@ impl Arrays {
         ]
     }
 
-    /// The tree of these counts, unless they or what stands behind them cannot be a reading's.
-    pub fn tree(&self, events: u64, gates: u64) -> Option<Tree> {
+    /// The tree of these counts and this form, unless they or what stands behind them cannot be a reading's.
+    pub fn tree(&self, events: u64, gates: u64, sited: u64) -> Option<Tree> {
         let (events, gates) = (events as usize, gates as usize);
         let (chances, behind) = self.chances.split_at_checked(events)?;
+        let (sites, behind_sites) = self.sites.split_at_checked(events)?;
         let clean = |array: &[u8]| array.get(gates..).is_some_and(|behind| behind.iter().all(|&number| number == 0));
-        if behind.iter().any(|&chance| chance != 0)
+        if sited > 1
+            || behind.iter().any(|&chance| chance != 0)
+            || behind_sites.iter().any(|&site| site != 0)
             || ![&self.kinds, &self.leasts, &self.sizes].into_iter().all(|a| clean(a))
         {
             return None;
@@ -87,6 +94,8 @@ impl Arrays {
             event_count: events as u64,
             gate_count: gates as u64,
             chances: chances.to_vec(),
+            sites: sites.to_vec(),
+            sited: sited == 1,
             gates: all,
             inputs: inputs.iter().map(|&input| input as u32).collect(),
         })

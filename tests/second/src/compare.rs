@@ -5,6 +5,7 @@ use crate::compare_added::{compare_added_list, meet_added, meet_refusal};
 use crate::compare_changes::compare_pairs;
 use crate::compare_equations::{compare_texts, compare_trees};
 use crate::compare_lent::{compare_bracket, compare_list};
+use crate::compare_sites::{compare_forms, compare_moves};
 use crate::compare_sizes::{compare_folders, compare_sizes};
 use crate::damage::{damaged, NUMBERS};
 use crate::diagrams;
@@ -69,9 +70,13 @@ pub fn compare_input(library: &dyn Library, seed: u64, tally: &mut Tally) {
 }
 
 fn compare_tree(library: &dyn Library, tree: &Tree, random: &mut Random, tally: &mut Tally) {
-    let bytes = write(tree).expect("a generated tree is accepted");
+    let tree = generator::in_either_form(random, tree.clone());
+    let bytes = write(&tree).expect("a generated tree is accepted");
     compare_reading(library, &bytes, random, tally);
     compare_analysis(library, &bytes, random, tally);
+    if random.once_in(8) {
+        compare_forms(library, &tree, random, tally);
+    }
 }
 
 pub fn compare_diagram(library: &dyn Library, diagram: &Lent, random: &mut Random, tally: &mut Tally) {
@@ -89,8 +94,12 @@ pub fn no_fault(library: &dyn Library, tally: &mut Tally) {
     tally.same("the call keeps to what it was lent", None, library.fault());
 }
 
+/// Reading, writing what was read, and every other time both moves.
 pub fn compare_reading(library: &dyn Library, bytes: &[u8], random: &mut Random, tally: &mut Tally) {
     tally.note(|| hex(bytes));
+    if random.once_in(2) {
+        compare_moves(library, bytes, random, tally);
+    }
     let got = library.read(bytes);
     no_fault(library, tally);
     let expected = read(bytes);
@@ -217,6 +226,7 @@ fn meet_analysis(expected: &Result<Analysis, Refusal>, bytes: &[u8], lengths: Le
             tally.meet("with one quadruple", lengths.memo == 4);
             tally.meet("with 10,000 quadruples", lengths.memo >= 40_000);
             tally.meet("of more than 256 events", done.tree.event_count > 256);
+            tally.meet("of trees with sites", done.tree.sited);
             tally.large("events analysed", done.tree.event_count);
             tally.large("gates analysed", done.tree.gate_count);
             tally.large("inputs analysed", done.tree.inputs.len() as u64);

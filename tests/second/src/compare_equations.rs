@@ -5,7 +5,7 @@ use crate::brute;
 use crate::compare::{compare_rooms, no_fault};
 use crate::equations::*;
 use crate::generator;
-use crate::judge::{read, write};
+use crate::judge::{judged_bytes, read, write};
 use crate::library::*;
 use crate::listing::Walk;
 use crate::memory::dirty;
@@ -50,12 +50,13 @@ pub fn compare_trees(library: &dyn Library, random: &mut Random, tally: &mut Tal
             generator::tree(random, shape)
         }
     };
+    let tree = generator::in_either_form(random, tree);
     tally.note(|| format!("{tree:?}"));
     compare_export(library, &tree, random, tally);
     if let Ok(text) = export(&tree) {
         let back = compare_import(library, &text, random, tally);
-        // Without what stands behind the counts.
-        let tree = write(&tree).and_then(|bytes| read(&bytes)).expect("it was exported");
+        // Without what stands behind the counts, and without sites where the form has none.
+        let tree = judged_bytes(&tree).and_then(|bytes| read(&bytes)).expect("it was exported");
         compare_round_trip(&tree, &text, &back, tally);
     }
 }

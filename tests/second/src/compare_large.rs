@@ -1,4 +1,4 @@
-//! The fixed inputs of every run: requests 3, 6 and 7 case by case, trees of known numbers at exact capacities, the longest bytes, the limits of lengths.
+//! The fixed inputs of every run: requests 3, 6, 7 and 8 case by case, trees of known numbers at exact capacities, the longest bytes, the limits of lengths.
 
 use crate::analysis::{analyse, Lengths};
 use crate::city::{self, city};
@@ -7,11 +7,12 @@ use crate::compare_added::compare_added;
 use crate::compare_changes::{case_1, compare_listings};
 use crate::compare_equations::{compare_export, compare_import};
 use crate::compare_lent::one_listing;
+use crate::compare_sites::compare_sites;
 use crate::compare_sizes::compare_figures;
 use crate::compare_wide::compare_wide;
 use crate::diagrams;
 use crate::european::{self, european_1};
-use crate::generator::longest_run;
+use crate::generator::{longest_run, sites};
 use crate::judge::write;
 use crate::lent::{Lent, Sort, MOST_NUMBERS};
 use crate::library::*;
@@ -28,12 +29,15 @@ pub fn compare_large(library: &dyn Library, tally: &mut Tally) {
     compare_twins(library, random, tally);
     compare_added(library, random, tally);
     compare_wide(library, random, tally);
+    compare_sites(library, random, tally);
     compare_named(library, "European 1", &european_1(), random, tally);
     compare_named(library, "a small city", &city(city::SMALL), random, tally);
     compare_named(library, "a middle city", &city(city::MIDDLE), random, tally);
     compare_named(library, "a large city", &city(city::LARGE), random, tally);
     compare_named(library, "a wide city", &city(city::WIDE), random, tally);
     compare_named(library, "the metropolis", &metropolis(), random, tally);
+    let sites = sites(random, metropolis().events());
+    compare_named(library, "the metropolis with sites", &metropolis().with_sites(&sites), random, tally);
     compare_figures(library, random, tally);
     compare_longest_bytes(library, random, tally);
     compare_longest_tables(library, random, tally);
@@ -94,15 +98,17 @@ fn compare_named(library: &dyn Library, name: &'static str, tree: &Tree, random:
     }
 }
 
-/// The longest run of records without a fault, and what may follow it.
+/// The longest runs of records without a fault, and what may follow them.
 fn compare_longest_bytes(library: &dyn Library, random: &mut Random, tally: &mut Tally) {
     tally.name = Some("the longest bytes");
-    let run = longest_run();
     let inputs: [&[u8]; 4] = [&[5, 0], &[6, 0, 0], &[8, 0, 0], &[8, 0, 1]];
-    let others: [&[u8]; 6] = [&[], &[7], &[7, 7], &[2, 1], &[1, 0, 0, 0, 0], &[9]];
-    for tail in inputs.into_iter().chain(others) {
-        compare_reading(library, &[&run[..], tail].concat(), random, tally);
-        compare_reading(library, &[&run[..], tail, &[7; 5_000]].concat(), random, tally);
+    let events: [&[u8]; 2] = [&[1, 0, 0, 0, 0], &[0x11, 0, 0, 0, 0, 0, 0]];
+    let others: [&[u8]; 5] = [&[], &[7], &[7, 7], &[2, 1], &[9]];
+    for run in [None, Some(0), Some(5)].map(longest_run) {
+        for tail in inputs.into_iter().chain(events).chain(others) {
+            compare_reading(library, &[&run[..], tail].concat(), random, tally);
+            compare_reading(library, &[&run[..], tail, &[7; 5_000]].concat(), random, tally);
+        }
     }
 }
 

@@ -1,7 +1,7 @@
 //! Damaged trees: for each number 1 to 8, and 21, bytes whose number and place follow from the damage itself.
 
-use crate::generator::{longest_shape, shape, small_shape, tree};
-use crate::judge::{event_input_bytes, write, Refusal};
+use crate::generator::{in_either_form, longest_shape, shape, small_shape, tree};
+use crate::judge::{event_bytes, event_input_bytes, event_length, write, Refusal};
 use crate::random::Random;
 use crate::tree::*;
 use crate::unlawful::raw_bytes;
@@ -19,7 +19,7 @@ fn records(tree: &Tree) -> Records {
     let mut records = Vec::new();
     let mut place = 0;
     while place < bytes.len() {
-        let length = LENGTHS[bytes[place] as usize];
+        let length = record_length(bytes[place]);
         records.push(bytes[place..place + length].to_vec());
         place += length;
     }
@@ -34,8 +34,18 @@ fn of_kinds(records: &Records, kinds: &[u8]) -> Vec<usize> {
     (0..records.len()).filter(|&index| kinds.contains(&records[index][0])).collect()
 }
 
-/// The bytes of a record by its kind; there is no kind 0.
-const LENGTHS: [usize; 9] = [1, 5, 2, 2, 3, 2, 3, 1, 3];
+/// The bytes of a record by its kind, where there is such a kind.
+fn record_length(kind: u8) -> usize {
+    match kind {
+        1 => 5,
+        0x11 => 7,
+        4 | 6 | 8 => 3,
+        2 | 3 | 5 => 2,
+        _ => 1,
+    }
+}
+
+const EVENTS: [u8; 2] = [1, 0x11];
 const GATES: [u8; 3] = [2, 3, 4];
 const INPUTS: [u8; 3] = [5, 6, 8];
 /// The numbers that reading refuses with.
@@ -62,12 +72,13 @@ fn damaged_once(random: &mut Random, number: u32) -> Damaged {
         _ => small_shape(random),
     };
     let whole = tree(random, size);
+    let whole = in_either_form(random, whole);
     let mut all = records(&whole);
     // From the record at fault on, anything may follow where that record decides.
     let faulty = match number {
-        1 => return cut_short(random, all),
+        1 => return cut_short(random, &whole, all),
         2 => unknown_kind(random, &mut all),
-        3 => return out_of_place(random, all),
+        3 => return out_of_place(random, &whole, all),
         4 => return count(random, &whole, all),
         5 => return wrong_k(random, all),
         6 => wrong_input(random, &whole, &mut all),
@@ -95,8 +106,13 @@ fn decided(random: &mut Random, expected: Refusal, all: Records, deciding: usize
     Damaged { bytes, expected }
 }
 
-fn cut_short(random: &mut Random, all: Records) -> Damaged {
-    let index = random.below(all.len());
+fn cut_short(random: &mut Random, whole: &Tree, mut all: Records) -> Damaged {
+    let mut index = random.below(all.len());
+    if random.once_in(6) {
+        // Inside an event of the other kind: 1 comes before 3.
+        index = random.between(1, whole.events());
+        all[index] = random_event(random, !whole.sited);
+    }
     let place = offset(&all, index);
     let kept = random.below(all[index].len());
     let mut bytes = all[..index].concat();
@@ -106,22 +122,39 @@ fn cut_short(random: &mut Random, all: Records) -> Damaged {
 
 fn unknown_kind(random: &mut Random, all: &mut Records) -> usize {
     let index = random.below(all.len());
-    let kind = if random.once_in(4) { random.of(&[0, 9, 0x0A, 0x11, 0x21, 0x23, 0xFF]) } else { random.byte() };
-    all[index][0] = if (1..=8).contains(&kind) { kind + 8 } else { kind };
+    let kind = if random.once_in(4) { random.of(&[0, 9, 0x0A, 0x0B, 0x10, 0x12, 0x21, 0xFF]) } else { random.byte() };
+    all[index][0] = if (1..=8).contains(&kind) || kind == 0x11 { kind + 8 } else { kind };
     index
 }
 
-fn out_of_place(random: &mut Random, mut all: Records) -> Damaged {
+fn out_of_place(random: &mut Random, whole: &Tree, mut all: Records) -> Damaged {
     let gates = of_kinds(&all, &GATES);
     let end = all.len() - 1;
-    let faulty = match random.below(5) {
+    let faulty = match random.below(7) {
         0 => {
-            // An event after a gate, wherever; its chance no longer matters.
+            // An event after a gate, wherever, of either kind; its chance no longer matters.
             let index = random.between(gates[0] + 1, end);
-            all.insert(index, vec![1, random.byte(), random.byte(), random.byte(), random.byte()]);
+            let sited = random.once_in(2);
+            all.insert(index, random_event(random, sited));
             index
         }
-        1 => {
+        1 | 2 => {
+            // An event of the other kind, also one more than there may be; its chance no longer matters.
+            let mut events = whole.events();
+            if random.once_in(6) {
+                let more = vec![event_bytes(0, whole.sited.then_some(0)); MOST_EVENTS - events];
+                all.splice(events..events, more);
+                events = MOST_EVENTS;
+            }
+            let any = random.between(1, events);
+            let index = random.of(&[1, any, events]);
+            if index < events && random.once_in(2) {
+                all.remove(index);
+            }
+            all.insert(index, random_event(random, !whole.sited));
+            index
+        }
+        3 => {
             // One input too many, in front of a gate or the end; its number no longer matters.
             let mut fronts = gates[1..].to_vec();
             fronts.push(end);
@@ -129,13 +162,13 @@ fn out_of_place(random: &mut Random, mut all: Records) -> Damaged {
             all.insert(index, random_input(random));
             index
         }
-        2 => {
+        4 => {
             // An input before any gate.
             let index = random.between(0, gates[0]);
             all.insert(index, random_input(random));
             index
         }
-        3 => {
+        5 => {
             // An input is missing where the next gate or the end comes.
             let mut fronts = gates[1..].to_vec();
             fronts.push(end);
@@ -165,6 +198,11 @@ fn out_of_place(random: &mut Random, mut all: Records) -> Damaged {
     finish(random, 3, all, faulty)
 }
 
+fn random_event(random: &mut Random, sited: bool) -> Vec<u8> {
+    let (any, site) = (random.next() as u32, random.below(0x10000) as u16);
+    event_bytes(random.of(&[0, D, D + 1, any]), sited.then_some(random.of(&[0, site])))
+}
+
 fn random_input(random: &mut Random) -> Vec<u8> {
     match random.below(3) {
         0 => vec![5, random.byte()],
@@ -187,16 +225,17 @@ fn count(random: &mut Random, whole: &Tree, mut all: Records) -> Damaged {
             // The 1,025th event; its chance no longer matters.
             let more = MOST_EVENTS + 1 - whole.events();
             for _ in 0..more {
-                all.insert(whole.events(), vec![1, 0, 0, 0, 0]);
+                all.insert(whole.events(), event_bytes(0, whole.sited.then_some(0)));
             }
             all[MOST_EVENTS][1..].fill(random.of(&[0, 0xFF]));
             finish(random, 4, all, MOST_EVENTS)
         }
         3 => {
             let events = random.below(MOST_EVENTS + 1);
-            let mut bytes = [1, 0, 0, 0, 0].repeat(events);
+            let mut bytes = event_bytes(0, whole.sited.then_some(0)).repeat(events);
+            let place = bytes.len() as u64;
             bytes.push(7);
-            Damaged { bytes, expected: Refusal { number: 4, place: 5 * events as u64 } }
+            Damaged { bytes, expected: Refusal { number: 4, place } }
         }
         4 => {
             // The 513th gate.
@@ -253,7 +292,7 @@ fn with_wrong_k(random: &mut Random, Damaged { mut bytes, mut expected }: Damage
     let mut place = 0;
     let mut open = None;
     while place < expected.place as usize {
-        let length = LENGTHS[bytes[place] as usize];
+        let length = record_length(bytes[place]);
         open = match bytes[place] {
             2..=4 => Some((place, bytes[place + length - 1])),
             5 | 6 | 8 => open.map(|(gate, missing)| (gate, missing - 1)),
@@ -299,10 +338,10 @@ fn narrow_input(random: &mut Random, all: &mut Records) -> usize {
 }
 
 fn wrong_chance(random: &mut Random, all: &mut Records) -> usize {
-    let index = random.of(&of_kinds(all, &[1]));
+    let index = random.of(&of_kinds(all, &EVENTS));
     let over = D as usize + 1 + random.below(u32::MAX as usize - D as usize);
     let chance = random.of(&[D + 1, D + 2, u32::MAX, over as u32]);
-    all[index] = [vec![1], chance.to_le_bytes().to_vec()].concat();
+    all[index][1..5].copy_from_slice(&chance.to_le_bytes());
     index
 }
 
@@ -317,6 +356,7 @@ fn unused(random: &mut Random, whole: &Tree) -> Damaged {
     } else {
         // A further event that nothing uses.
         tree.chances.push(0);
+        tree.sites.push(0);
         tree.event_count += 1;
         1
     };
@@ -333,7 +373,7 @@ fn unused(random: &mut Random, whole: &Tree) -> Damaged {
     }
     let bytes = raw_bytes(&tree);
     let place = if lost < FIRST_GATE_INPUT {
-        5 * lost as u64
+        event_length(tree.sited) * lost as u64
     } else {
         let gate = (lost - FIRST_GATE_INPUT) as usize;
         let shorter = Tree { gates: tree.gates[..gate].to_vec(), gate_count: gate as u64, ..tree };

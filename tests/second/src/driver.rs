@@ -24,6 +24,8 @@ const FOLDER: u64 = 9;
 const SIDE: u64 = 10;
 const FIRST_DIFFERENCE: u64 = 11;
 const COMPARE: u64 = 12;
+const TO_SITES: u64 = 13;
+const FROM_SITES: u64 = 14;
 
 /// What the driver says of a call when every guard and every constant area stands.
 const ALL_STANDS: u64 = 3;
@@ -142,14 +144,14 @@ impl Driver {
     }
 
     /// The tree that a call left in the arrays, which a refusal leaves as they were lent.
-    fn tree(&self, number: u64, events: u64, gates: u64, lent: &Arrays, arrays: &Arrays) -> Tree {
+    fn tree(&self, number: u64, [events, gates, sited]: [u64; 3], lent: &Arrays, arrays: &Arrays) -> Tree {
         let tree = if number == 0 {
-            arrays.tree(events, gates)
+            arrays.tree(events, gates, sited)
         } else {
-            (arrays == lent && events == 0 && gates == 0).then(Tree::default)
+            (arrays == lent && [events, gates, sited] == [0; 3]).then(Tree::default)
         };
         if tree.is_none() && self.fault.get().is_none() {
-            self.fault.set(Some("the call leaves more or less than its tree in the arrays or the counts"));
+            self.fault.set(Some("the call leaves more or less than its tree in the arrays, the counts or the form"));
         }
         tree.unwrap_or_default()
     }
@@ -157,7 +159,15 @@ impl Driver {
     /// A call that writes a tree into a room.
     fn written(&self, call: u64, tree: &Tree, room: &mut [u8]) -> WriteAnswer {
         let arrays = Arrays::of(tree, room.len() as u64);
-        let request = arrays.lend(Request::of(call).number(tree.event_count).number(tree.gate_count)).bytes(room);
+        let request = Request::of(call).number(tree.event_count).number(tree.gate_count).number(u64::from(tree.sited));
+        let request = arrays.lend(request).bytes(room);
+        let [number, place, used] = self.ask(request, &mut [Area::Bytes(room)]);
+        WriteAnswer { number: small(number), place, used }
+    }
+
+    /// A call that moves a tree's bytes into a room.
+    fn moved(&self, call: u64, bytes: &[u8], room: &mut [u8]) -> WriteAnswer {
+        let request = Request::of(call).bytes(bytes).bytes(room);
         let [number, place, used] = self.ask(request, &mut [Area::Bytes(room)]);
         WriteAnswer { number: small(number), place, used }
     }
@@ -256,12 +266,20 @@ impl Library for Driver {
         let lent = Arrays::dirty(seed(bytes));
         let mut arrays = lent.clone();
         let request = arrays.lend(Request::of(READ).bytes(bytes));
-        let [number, place, events, gates] = self.ask(request, &mut arrays.areas());
-        ReadAnswer { number: small(number), place, tree: self.tree(number, events, gates, &lent, &arrays) }
+        let [number, place, events, gates, sited] = self.ask(request, &mut arrays.areas());
+        ReadAnswer { number: small(number), place, tree: self.tree(number, [events, gates, sited], &lent, &arrays) }
     }
 
     fn write(&self, tree: &Tree, room: &mut [u8]) -> WriteAnswer {
         self.written(WRITE, tree, room)
+    }
+
+    fn to_sites(&self, bytes: &[u8], room: &mut [u8]) -> WriteAnswer {
+        self.moved(TO_SITES, bytes, room)
+    }
+
+    fn from_sites(&self, bytes: &[u8], room: &mut [u8]) -> WriteAnswer {
+        self.moved(FROM_SITES, bytes, room)
     }
 
     fn analyse(&self, bytes: &[u8], areas: Areas, added: &mut [u32]) -> AnalyseAnswer {
@@ -309,7 +327,8 @@ impl Library for Driver {
         let request = arrays.lend(request);
         areas.extend(arrays.areas());
         let [number, place, line, ring, events, gates] = self.ask(request, &mut areas);
-        let tree = self.tree(number, events, gates, &lent, &arrays);
+        // Typed equations have no sites, and no answer about them: the form is the old one.
+        let tree = self.tree(number, [events, gates, 0], &lent, &arrays);
         ImportAnswer { number: small(number), place, line, ring, tree }
     }
 

@@ -3,7 +3,7 @@
 //!
 //! Nothing here goes deeper with the depth of a tree, and no list has a limit but memory.
 
-use crate::judge::{refuse, write, Judge, Record, Refusal};
+use crate::judge::{judged_bytes, lay, Judge, Record, Refusal};
 use crate::tree::*;
 use std::collections::{HashMap, HashSet};
 
@@ -265,7 +265,7 @@ impl<'a> Equations<'a> {
         let mut records = vec![Record::End; self.names.len()];
         for (event, &name) in events.iter().enumerate() {
             let chance = chances.get(self.names[name].letters).copied().unwrap_or(0);
-            judge.take(Record::Event(chance), 0)?;
+            judge.take(Record::Event { chance, site: None }, 0)?;
             records[name] = Record::of_event(event as u64);
         }
         for (gate, &name) in gates.iter().enumerate() {
@@ -376,9 +376,10 @@ pub fn name_at(text: &[u8], place: u32) -> &[u8] {
     &rest[..end]
 }
 
-/// A tree as a text, gate by gate and then every chance, refused as its bytes would be.
+/// A tree as a text, gate by gate and then every chance, refused as its bytes would be. Equations have no sites: a tree of either form, and of
+/// any sites, is typed the same.
 pub fn export(tree: &Tree) -> Result<Vec<u8>, Refusal> {
-    write(tree)?;
+    judged_bytes(tree)?;
     let mut text = String::new();
     let name = |input: Input| match input {
         Input::Event(event) => format!("e{event}"),
@@ -407,10 +408,5 @@ pub fn export(tree: &Tree) -> Result<Vec<u8>, Refusal> {
 
 /// Exporting into a lent room, as writing does.
 pub fn export_into(tree: &Tree, room: &mut [u8]) -> Result<usize, Refusal> {
-    let text = export(tree)?;
-    if room.len() < text.len() {
-        return refuse(9, 0);
-    }
-    room[..text.len()].copy_from_slice(&text);
-    Ok(text.len())
+    lay(export(tree), room)
 }

@@ -1,7 +1,7 @@
 //! Seeded folders: trees one behind the other, and the list of their lengths.
 
 use crate::damage::{damaged, NUMBERS};
-use crate::generator::{and_of_ors, middle_shape, ors_from_the_last, small_shape, tree};
+use crate::generator::{and_of_ors, in_either_form, middle_shape, ors_from_the_last, small_shape, tree};
 use crate::judge::write;
 use crate::random::Random;
 use crate::sizes::MOST_TREES;
@@ -31,7 +31,7 @@ fn accepted(random: &mut Random, huge: bool) -> Vec<u8> {
             tree(random, shape)
         }
     };
-    write(&made).expect("a generated tree is accepted")
+    write(&in_either_form(random, made)).expect("a generated tree is accepted")
 }
 
 /// Trees: all accepted, or one or two refused, by any of reading's numbers, first, last, or anywhere.

@@ -1,5 +1,6 @@
 //! Seeded inputs: bytes, accepted trees of every size, chances, starts and rooms.
 
+use crate::judge::event_bytes;
 use crate::random::Random;
 use crate::sets::Set;
 use crate::tree::*;
@@ -55,7 +56,7 @@ pub fn large_shape(random: &mut Random) -> Shape {
     Shape { reach, inputs, ..shape(events, gates, widest) }
 }
 
-/// All counts at their maximum: 1,024 events, 512 gates, 4,096 inputs, and 18,689 bytes, since every gate
+/// All counts at their maximum: 1,024 events, 512 gates, 4,096 inputs, and with sites 20,737 bytes, since every gate
 /// is an at-least and every event is an input once only.
 pub fn longest_shape() -> Shape {
     Shape {
@@ -172,6 +173,38 @@ pub fn chances(random: &mut Random, events: usize) -> Vec<u32> {
     (0..events).map(|_| chance(random)).collect()
 }
 
+fn site(random: &mut Random) -> u16 {
+    let any = random.between(1, 0xFFFF) as u16;
+    random.of(&[1, 0xFF, 0x100, 0xFF00, 0xFFFF, any])
+}
+
+/// All 0, the last event's alone another, one event's alone, or any.
+pub fn sites(random: &mut Random, events: usize) -> Vec<u16> {
+    let mut sites = vec![0; events];
+    match random.below(6) {
+        _ if events == 0 => {}
+        0 | 1 => {}
+        2 => sites[events - 1] = site(random),
+        3 => sites[random.below(events)] = site(random),
+        _ => {
+            let often = random.between(1, 4);
+            for own in &mut sites {
+                *own = if random.once_in(often) { site(random) } else { 0 };
+            }
+        }
+    }
+    sites
+}
+
+/// The tree as it is, or of the new form with sites.
+pub fn in_either_form(random: &mut Random, tree: Tree) -> Tree {
+    if !random.once_in(3) {
+        return tree;
+    }
+    let sites = sites(random, tree.chances.len());
+    tree.with_sites(&sites)
+}
+
 /// An accepted tree. At most 64 items may wait for their first use at the root, so the number of events
 /// must be below 64 for a single gate; the shapes above are, or have gates enough.
 pub fn tree(random: &mut Random, shape: Shape) -> Tree {
@@ -279,7 +312,11 @@ pub fn bytes(random: &mut Random) -> Vec<u8> {
         _ => random.below(300),
     };
     let small = random.once_in(2);
-    (0..length).map(|_| if small { random.below(10) as u8 } else { random.byte() }).collect()
+    let known = |random: &mut Random| match random.below(11) {
+        10 => 0x11,
+        kind => kind as u8,
+    };
+    (0..length).map(|_| if small { known(random) } else { random.byte() }).collect()
 }
 
 /// A start: from the beginning, after a set of the events, after a cut or near one, or after a set that
@@ -316,9 +353,10 @@ pub fn room(random: &mut Random, whole: usize) -> usize {
     }
 }
 
-/// 18,944 bytes, the longest run of records without a fault before the end: every input has three bytes, those of gate 0 as event 256.
-pub fn longest_run() -> Vec<u8> {
-    let mut run = [1, 0, 0, 0, 0].repeat(MOST_EVENTS);
+/// 20,992 bytes with sites and 18,944 without, the longest runs of records without a fault before the end: every input has three bytes, those of
+/// gate 0 as event 256.
+pub fn longest_run(site: Option<u16>) -> Vec<u8> {
+    let mut run = event_bytes(0, site).repeat(MOST_EVENTS);
     let n = MOST_INPUTS / MOST_GATES;
     for gate in 0..MOST_GATES {
         run.extend([4, 1, n as u8]);

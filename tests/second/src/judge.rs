@@ -1,4 +1,4 @@
-//! Tree records: decoding, numbers 1 to 8 and 21 with their places, reading and writing.
+//! Tree records: decoding, numbers 1 to 8, 21 and 22 with their places, reading and writing.
 //!
 //! The judge takes records with plain numbers as fields, one after another, so that bytes and trees
 //! in memory (some of which no bytes can hold) are refused by the same rules.
@@ -24,7 +24,11 @@ pub fn refuse<T>(number: u32, place: u64) -> Result<T, Refusal> {
 
 #[derive(Clone, Copy, Debug, PartialEq, Eq)]
 pub enum Record {
-    Event(u64),
+    /// Kind 11 has a site, kind 01 none.
+    Event {
+        chance: u64,
+        site: Option<u16>,
+    },
     Gate {
         kind: u32,
         k: u64,
@@ -47,16 +51,19 @@ impl Record {
     }
 }
 
-/// What request 7 changed about reading: how many events there may be, and whether kind 08 is known.
+/// What requests 7 and 8 changed about reading: how many events there may be, and whether kinds 08 and 11 are known.
 #[derive(Clone, Copy, Debug)]
 pub struct Reader {
     pub most_events: usize,
     pub wide: bool,
+    pub sites: bool,
 }
 
-pub const READER: Reader = Reader { most_events: MOST_EVENTS, wide: true };
+pub const READER: Reader = Reader { most_events: MOST_EVENTS, wide: true, sites: true };
+/// The reader before request 8.
+pub const READER_WITHOUT_SITES: Reader = Reader { sites: false, ..READER };
 /// The reader before request 7.
-pub const OLD_READER: Reader = Reader { most_events: 256, wide: false };
+pub const OLD_READER: Reader = Reader { most_events: 256, wide: false, sites: false };
 
 impl Default for Reader {
     fn default() -> Reader {
@@ -73,6 +80,7 @@ impl Reader {
             4 | 6 => Some(2),
             7 => Some(0),
             8 if self.wide => Some(2),
+            SITED_EVENT if self.sites => Some(6),
             _ => None,
         }
     }
@@ -84,7 +92,8 @@ impl Reader {
         let Some(body) = bytes.get(place + 1..place + 1 + length) else { return refuse(1, place as u64) };
         let low_first = |part: &[u8]| part.iter().rev().fold(0u64, |n, &b| n * 256 + b as u64);
         let record = match kind {
-            1 => Record::Event(low_first(body)),
+            1 => Record::Event { chance: low_first(body), site: None },
+            SITED_EVENT => Record::Event { chance: low_first(&body[..4]), site: Some(low_first(&body[4..]) as u16) },
             2 | 3 => Record::Gate { kind, k: 0, n: body[0] as u64 },
             4 => Record::Gate { kind, k: body[0] as u64, n: body[1] as u64 },
             5 => Record::EventInput(body[0] as u64),
@@ -126,8 +135,10 @@ impl Judge {
     /// Every record but the end: 3, then 4, then 21, then 6 or 7; after a gate's last input 5, for the gate.
     pub fn take(&mut self, record: Record, place: u64) -> Result<(), Refusal> {
         match record {
-            Record::Event(chance) => {
-                if !self.tree.gates.is_empty() {
+            Record::Event { chance, site } => {
+                // Of the first event's kind throughout.
+                let mixed = !self.tree.chances.is_empty() && self.tree.sited != site.is_some();
+                if !self.tree.gates.is_empty() || mixed {
                     return refuse(3, place);
                 }
                 if self.tree.chances.len() == self.reader.most_events {
@@ -136,7 +147,9 @@ impl Judge {
                 if chance > D as u64 {
                     return refuse(7, place);
                 }
+                self.tree.sited = site.is_some();
                 self.tree.chances.push(chance as u32);
+                self.tree.sites.push(site.unwrap_or(0));
                 self.event_places.push(place);
             }
             Record::Gate { kind, k, n } => {
@@ -245,15 +258,25 @@ pub fn read(bytes: &[u8]) -> Result<Tree, Refusal> {
     READER.read(bytes)
 }
 
-/// A tree to its bytes, refused as those bytes would be.
+/// A tree to its bytes: refused as those bytes would be, then with 22 where they have no place for a site, at the first such event's record.
 pub fn write(tree: &Tree) -> Result<Vec<u8>, Refusal> {
+    let bytes = judged_bytes(tree)?;
+    let lost = (0..tree.event_count).find(|&event| !tree.sited && tree.site(event) != 0);
+    match lost {
+        // Each event before it has five bytes.
+        Some(event) => refuse(22, 5 * event),
+        None => Ok(bytes),
+    }
+}
+
+/// The bytes that have the tree's form, whatever sites there are: refused with 1 to 8 or 21.
+pub fn judged_bytes(tree: &Tree) -> Result<Vec<u8>, Refusal> {
     let mut judge = Judge::default();
     let mut bytes: Vec<u8> = Vec::new();
     for event in 0..tree.event_count {
-        let chance = tree.chance(event);
-        judge.take(Record::Event(chance as u64), bytes.len() as u64)?;
-        bytes.push(1);
-        bytes.extend(chance.to_le_bytes());
+        let (chance, site) = (tree.chance(event), tree.sited.then_some(tree.site(event)));
+        judge.take(Record::Event { chance: chance as u64, site }, bytes.len() as u64)?;
+        bytes.extend(event_bytes(chance, site));
     }
     let mut next_input = 0;
     for number in 0..tree.gate_count {
@@ -295,6 +318,22 @@ fn write_input(input: Input, judge: &mut Judge, bytes: &mut Vec<u8>) -> Result<(
     Ok(())
 }
 
+/// The kind of an event with a site, hexadecimal as all kinds are.
+pub const SITED_EVENT: u32 = 0x11;
+
+/// Kind 01, or kind 11 with a site behind the chance.
+pub fn event_bytes(chance: u32, site: Option<u16>) -> Vec<u8> {
+    match site {
+        None => [&[1], &chance.to_le_bytes()[..]].concat(),
+        Some(site) => [&[SITED_EVENT as u8], &chance.to_le_bytes()[..], &site.to_le_bytes()].concat(),
+    }
+}
+
+/// The bytes of an event's record, of either form.
+pub fn event_length(sited: bool) -> u64 {
+    event_bytes(0, sited.then_some(0)).len() as u64
+}
+
 /// Kind 05 with one byte for numbers below 256, kind 08 with two for those from 256 on.
 pub fn event_input_bytes(event: u32) -> Vec<u8> {
     match event < FIRST_WIDE_EVENT {
@@ -314,7 +353,12 @@ pub fn input_length(input: &Input) -> u64 {
 /// Writing into a lent room: the tree's own fault first, then 9 for a short room, which then stays as
 /// it was; behind the bytes it stays in any case. Answers the number of bytes written.
 pub fn write_into(tree: &Tree, room: &mut [u8]) -> Result<usize, Refusal> {
-    let bytes = write(tree)?;
+    lay(write(tree), room)
+}
+
+/// The same for any bytes.
+pub fn lay(written: Result<Vec<u8>, Refusal>, room: &mut [u8]) -> Result<usize, Refusal> {
+    let bytes = written?;
     if room.len() < bytes.len() {
         return refuse(9, 0);
     }

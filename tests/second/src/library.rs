@@ -126,6 +126,9 @@ pub trait Library {
 
     fn read(&self, bytes: &[u8]) -> ReadAnswer;
     fn write(&self, tree: &Tree, room: &mut [u8]) -> WriteAnswer;
+    /// The bytes of a tree moved to the form with sites, and back.
+    fn to_sites(&self, bytes: &[u8], room: &mut [u8]) -> WriteAnswer;
+    fn from_sites(&self, bytes: &[u8], room: &mut [u8]) -> WriteAnswer;
     /// `added` is the list of the nodes that each gate added.
     fn analyse(&self, bytes: &[u8], areas: Areas, added: &mut [u32]) -> AnalyseAnswer;
     /// `None` is "from the beginning".

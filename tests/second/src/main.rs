@@ -7,9 +7,10 @@ use second::brute_cuts;
 use second::city;
 use second::equations::{export, name_at, typed, Import};
 use second::folders::Folder;
-use second::generator::{middle_shape, tree, wide_tree};
+use second::generator::{middle_shape, sites, tree, wide_tree};
 use second::judge::{read, write, Refusal, OLD_READER, READER};
 use second::listing::list;
+use second::moves::{from_sites, to_sites};
 use second::program::{program, report};
 use second::random::Random;
 use second::sizes::{folder, RefusedFolder};
@@ -27,9 +28,12 @@ second program FILE            what the program of document 01 writes
 second equations FILE          the bytes of the tree that typed equations say
 second names FILE              the numbers that those equations' names get
 second export FILE             a tree's bytes as equations
+second to-sites FILE           a tree's bytes in the form with sites, or the refusal
+second from-sites FILE         in the form without
+second at FILE SITE..          in the form with sites, its events at these
 second sizes FILE..            how many cuts of each size the trees have together
 second city SIZE               the equations of a city-like tree: small, middle, large, or wide of 900 events
-second random SEED [wide]      the bytes of a seeded tree of middle size, or of 255 to 1,024 events
+second random SEED [wide|sited]  the bytes of a seeded tree of middle size, or of 255 to 1,024 events, or with sites
 a FILE of - is the standard input";
 
 fn main() {
@@ -45,12 +49,18 @@ fn main() {
     }
     if words[0] == "random" {
         let random = &mut Random::new(number(&words[1]) as u64);
-        let tree = match words.get(2) {
-            Some(_) => wide_tree(random),
-            None => {
-                let shape = middle_shape(random);
-                tree(random, shape)
+        let middle = |random: &mut Random| {
+            let shape = middle_shape(random);
+            tree(random, shape)
+        };
+        let tree = match words.get(2).map(String::as_str) {
+            Some("sited") => {
+                let tree = middle(random);
+                let sites = sites(random, tree.events());
+                tree.with_sites(&sites)
             }
+            Some(_) => wide_tree(random),
+            None => middle(random),
         };
         let _ = out.write_all(&write(&tree).expect("a generated tree is accepted"));
         return;
@@ -68,6 +78,9 @@ fn main() {
         "equations" => equations(&bytes, out),
         "names" => names(&bytes, out),
         "export" => typed_out(&bytes, out),
+        "to-sites" => moved(to_sites(&bytes), out),
+        "from-sites" => moved(from_sites(&bytes), out),
+        "at" => at(&bytes, &words[2..], out),
         "sizes" => by_size(&words[1..], out),
         other => {
             eprintln!("unknown: {other}\n{USAGE}");
@@ -95,8 +108,9 @@ fn judge(reading: Result<Tree, Refusal>, out: &mut dyn Write) -> io::Result<()> 
     match reading {
         Ok(tree) => writeln!(
             out,
-            "accepted: {} events, {} gates, {} inputs",
+            "accepted: {} events{}, {} gates, {} inputs",
             tree.event_count,
+            if tree.sited { " with sites" } else { "" },
             tree.gate_count,
             tree.inputs.len()
         ),
@@ -218,6 +232,18 @@ fn typed_out(bytes: &[u8], out: &mut dyn Write) -> io::Result<()> {
         Ok(tree) => out.write_all(&export(&tree).expect("a read tree is accepted")),
         Err(Refusal { number, place }) => writeln!(out, "refused {number} at {place}"),
     }
+}
+
+fn moved(moved: Result<Vec<u8>, Refusal>, out: &mut dyn Write) -> io::Result<()> {
+    match moved {
+        Ok(bytes) => out.write_all(&bytes),
+        Err(Refusal { number, place }) => writeln!(out, "refused {number} at {place}"),
+    }
+}
+
+fn at(bytes: &[u8], sites: &[String], out: &mut dyn Write) -> io::Result<()> {
+    let sites: Vec<u16> = sites.iter().map(|site| site.parse().expect("a site")).collect();
+    moved(read(bytes).and_then(|tree| write(&tree.with_sites(&sites))), out)
 }
 
 fn by_size(files: &[String], out: &mut dyn Write) -> io::Result<()> {

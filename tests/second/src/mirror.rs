@@ -9,6 +9,7 @@ use crate::judge::{read, write_into, Refusal};
 use crate::lent::Lent;
 use crate::library::*;
 use crate::listing::list;
+use crate::moves::{from_sites_into, to_sites_into};
 use crate::sets::Set;
 use crate::sizes::{folder, sizes, RefusedFolder, COUNT_AREAS, SIZES};
 use crate::tree::{Tree, MOST_GATES};
@@ -18,6 +19,14 @@ pub struct Mirror;
 fn fill(area: &mut [u32], numbers: &[u32]) {
     area.fill(0);
     area[..numbers.len()].copy_from_slice(numbers);
+}
+
+/// What is answered where something was written into a room, or not.
+pub fn told(written: Result<usize, Refusal>) -> WriteAnswer {
+    match written {
+        Ok(used) => WriteAnswer { number: 0, place: 0, used: used as u64 },
+        Err(Refusal { number, place }) => WriteAnswer { number, place, used: 0 },
+    }
 }
 
 /// What the lists hold after an import.
@@ -111,10 +120,15 @@ impl Library for Mirror {
     }
 
     fn write(&self, tree: &Tree, room: &mut [u8]) -> WriteAnswer {
-        match write_into(tree, room) {
-            Ok(used) => WriteAnswer { number: 0, place: 0, used: used as u64 },
-            Err(Refusal { number, place }) => WriteAnswer { number, place, used: 0 },
-        }
+        told(write_into(tree, room))
+    }
+
+    fn to_sites(&self, bytes: &[u8], room: &mut [u8]) -> WriteAnswer {
+        told(to_sites_into(bytes, room))
+    }
+
+    fn from_sites(&self, bytes: &[u8], room: &mut [u8]) -> WriteAnswer {
+        told(from_sites_into(bytes, room))
     }
 
     fn analyse(&self, bytes: &[u8], areas: Areas, added: &mut [u32]) -> AnalyseAnswer {
@@ -151,10 +165,7 @@ impl Library for Mirror {
     }
 
     fn export(&self, tree: &Tree, room: &mut [u8]) -> WriteAnswer {
-        match export_into(tree, room) {
-            Ok(used) => WriteAnswer { number: 0, place: 0, used: used as u64 },
-            Err(Refusal { number, place }) => WriteAnswer { number, place, used: 0 },
-        }
+        told(export_into(tree, room))
     }
 
     fn sizes(&self, diagram: &Lent, counting: CountAreas) -> SizesAnswer {

@@ -7,7 +7,7 @@ use crate::listing::Walk;
 use std::io::{self, Write};
 
 /// The program reads no more than this.
-pub const MOST_READ: usize = 20_480;
+pub const MOST_READ: usize = 24_576;
 /// The nodes that it lends to each table.
 pub const LENT_NODES: usize = 4_096;
 

@@ -7,7 +7,7 @@ pub const MOST_EVENTS: usize = 1_024;
 pub const MOST_GATES: usize = 512;
 pub const MOST_INPUTS_OF_A_GATE: usize = 64;
 pub const MOST_INPUTS: usize = 4_096;
-pub const LONGEST_TREE: usize = 18_689;
+pub const LONGEST_TREE: usize = 20_737;
 
 /// Events from this number on have two bytes in a record, those below it one.
 pub const FIRST_WIDE_EVENT: u32 = 256;
@@ -40,12 +40,15 @@ pub fn distinct<T: Clone + PartialEq>(items: &[T]) -> Vec<T> {
 }
 
 /// The counts stand beside the arrays and may exceed them. What lies behind an array counts as an
-/// event of chance 0, as an and of no inputs, or as the input event 0.
+/// event of chance 0 and site 0, as an and of no inputs, or as the input event 0.
 #[derive(Clone, Debug, Default, PartialEq, Eq)]
 pub struct Tree {
     pub event_count: u64,
     pub gate_count: u64,
     pub chances: Vec<u32>,
+    pub sites: Vec<u16>,
+    /// The form: whether events have records with a site, of kind 11, or without, of kind 01. It does not follow from the sites.
+    pub sited: bool,
     pub gates: Vec<Gate>,
     pub inputs: Vec<u32>,
 }
@@ -54,6 +57,11 @@ impl Tree {
     pub fn chance(&self, event: u64) -> u32 {
         let held = usize::try_from(event).ok().filter(|&e| e < MOST_EVENTS);
         held.and_then(|e| self.chances.get(e).copied()).unwrap_or(0)
+    }
+
+    pub fn site(&self, event: u64) -> u16 {
+        let held = usize::try_from(event).ok().filter(|&e| e < MOST_EVENTS);
+        held.and_then(|e| self.sites.get(e).copied()).unwrap_or(0)
     }
 
     pub fn gate(&self, gate: u64) -> Gate {
@@ -83,10 +91,20 @@ impl Tree {
         all
     }
 
-    // The three calls below build trees by hand, for examples, vectors and the generator.
+    // The calls below build trees by hand, for examples, vectors and the generator.
 
+    /// Of the old form.
     pub fn of_chances(chances: &[u32]) -> Tree {
-        Tree { event_count: chances.len() as u64, chances: chances.to_vec(), ..Tree::default() }
+        let (event_count, sites) = (chances.len() as u64, vec![0; chances.len()]);
+        Tree { event_count, chances: chances.to_vec(), sites, ..Tree::default() }
+    }
+
+    /// Of the new form, the events behind these sites at site 0.
+    pub fn with_sites(mut self, sites: &[u16]) -> Tree {
+        self.sited = true;
+        self.sites = sites.to_vec();
+        self.sites.resize(self.chances.len().max(sites.len()), 0);
+        self
     }
 
     /// Adds a gate and answers its number.

@@ -1,16 +1,15 @@
 //! Trees in memory that may break any rule, also such as no bytes can hold, and the bytes of trees without any judgement.
 
-use crate::generator::{longest_shape, small_shape, tree, wide_tree};
-use crate::judge::event_input_bytes;
+use crate::generator::{in_either_form, longest_shape, sites, small_shape, tree, wide_tree};
+use crate::judge::{event_bytes, event_input_bytes};
 use crate::random::Random;
 use crate::tree::*;
 
 /// The records of a tree as bytes without any judgement; fields are cut to their bytes.
 pub fn raw_bytes(tree: &Tree) -> Vec<u8> {
     let mut bytes = Vec::new();
-    for &chance in &tree.chances {
-        bytes.push(1);
-        bytes.extend(chance.to_le_bytes());
+    for (event, &chance) in tree.chances.iter().enumerate() {
+        bytes.extend(event_bytes(chance, tree.sited.then_some(tree.site(event as u64))));
     }
     for (gate, inputs) in tree.gates.iter().zip(tree.inputs_by_gate()) {
         bytes.push(gate.kind as u8);
@@ -49,7 +48,8 @@ fn tree_without_plan(random: &mut Random) -> Tree {
     let inputs = (0..random.below(16)).map(|_| input(random)).collect();
     let count = |random: &mut Random, held: usize| if random.once_in(6) { random.below(6) as u64 } else { held as u64 };
     let (event_count, gate_count) = (count(random, events), count(random, gates));
-    Tree { event_count, gate_count, chances, gates: all, inputs }
+    let (sites, sited) = (sites(random, events), random.once_in(2));
+    Tree { event_count, gate_count, chances, sites, sited, gates: all, inputs }
 }
 
 /// A tree in memory that may break any rule, also such as no bytes can; its numbers are as wide as the records'.
@@ -65,6 +65,12 @@ pub fn tree_in_memory(random: &mut Random) -> Tree {
             tree(random, shape)
         }
     };
+    tree = in_either_form(random, tree);
+    if random.once_in(6) {
+        // Sites that the form's records have no bytes for.
+        let sites = sites(random, tree.chances.len());
+        tree = Tree { sited: false, ..tree.with_sites(&sites) };
+    }
     if random.once_in(4) {
         return tree;
     }
@@ -72,7 +78,7 @@ pub fn tree_in_memory(random: &mut Random) -> Tree {
     let gate = random.below(tree.gates.len());
     let input = random.below(tree.inputs.len());
     let large = random.next() as u32;
-    match random.below(15) {
+    match random.below(17) {
         0 => tree.event_count += random.of(&[1, 2, 1_100, 1 << 32, u64::MAX >> 1]),
         1 => tree.gate_count += random.of(&[1, 2, 600, 1 << 32, u64::MAX >> 1]),
         2 => tree.event_count = random.below(tree.chances.len() + 1) as u64,
@@ -104,6 +110,9 @@ pub fn tree_in_memory(random: &mut Random) -> Tree {
         }
         9 => tree.inputs[input] = random.below(1_600) as u32,
         10 => tree.chances.truncate(event),
+        15 => tree.sites.truncate(event),
+        // Behind the events, where it counts for nothing.
+        16 => tree.sites.push(1),
         _ => tree.inputs.truncate(input),
     }
     tree

@@ -16,6 +16,7 @@ use crate::wrong_added::wrong_added;
 use crate::wrong_changes::{wrong_compare, wrong_difference, wrong_side};
 use crate::wrong_equations::{wrong_export, wrong_import};
 use crate::wrong_lent::{wrong_bracket, wrong_list};
+use crate::wrong_sites::*;
 use crate::wrong_sizes::{wrong_folder, wrong_sizes};
 use crate::wrong_twins::{counted, wrong_read, wrong_write};
 use crate::wrong_wide::{wide_list, wide_read, wide_write};
@@ -49,6 +50,17 @@ wrongs! {
     WideInputsHighByteFirst,
     FourAtTheOldLimit,
     GatesFrom256,
+    FormGuessedFromTheSites,
+    KindElevenUnknown,
+    MixturePasses,
+    MixtureAfterFour,
+    MixtureAfterSeven,
+    MixtureBeforeOne,
+    MixtureAtTheFirstEvent,
+    SitesHighByteFirst,
+    SiteBeforeTheChance,
+    SitesNotRead,
+    EveryEventHasFiveBytes,
     // Writing.
     WritesUntilFull,
     ZerosBehindTheTree,
@@ -58,6 +70,31 @@ wrongs! {
     WritesFiveOfAllInputs,
     WideInputsThroughout,
     InputsCutToAByte,
+    FormWrittenBySites,
+    LostSitesPass,
+    WritesTwentyTwoBeforeEight,
+    TwentyTwoOfSitesBehind,
+    WritesNineBeforeTwentyTwo,
+    WritesUntilTwentyTwo,
+    WritesPlaceOfTheLastSite,
+    WritesPlaceOfSevenBytes,
+    // Moves.
+    MovedTreesRefused,
+    ZerosBehindTheMoved,
+    MovesUntilFull,
+    MovesIntoEitherForm,
+    MovesRoomBeforeTheTree,
+    SitesSetToZero,
+    BackDropsSites,
+    BackDropsHighSites,
+    BackRefusesTheNewForm,
+    BackNineBeforeTwentyTwo,
+    BackWritesUntilTwentyTwo,
+    BackClearsOnTwentyTwo,
+    BackPlaceOfTheLastSite,
+    BackPlaceOfFiveBytes,
+    BackSaysTheEvent,
+    BackTwentyTwoBeforeEight,
     // Analysis.
     SafeBound,
     OrForAtLeastOne,
@@ -71,6 +108,7 @@ wrongs! {
     AreaLeftDirty,
     CountKeptInRefusal,
     FirstGateIsRoot,
+    SitesNotAnalysed,
     DoublesCountedTwice,
     DistinctByNode,
     DistinctByNumbersAlone,
@@ -156,6 +194,7 @@ wrongs! {
     OneOfOneIsOr,
     ImportsFiveOfAllInputs,
     ImportStopsAt256,
+    ImportsTheNewForm,
     ShownInAnyLine,
     ShownStaysOnRefusal,
     ListLeftDirty,
@@ -168,6 +207,9 @@ wrongs! {
     ExportsUntilFull,
     ExportRoomBeforeTheTree,
     ZerosBehindTheText,
+    ExportRefusesSites,
+    ExportRefusesLostSites,
+    ExportsThePlaceOfTheOldForm,
     // Sizes.
     UnreachedOverflowRefuses,
     LargestRefused,
@@ -252,9 +294,11 @@ impl Library for WrongProgram {
         let at_fault = bytes.get(place).copied().unwrap_or(0);
         match self.0 {
             PlaceAlwaysZero => answer.place = 0,
-            TrailingBytesAsRecords if answer.number == 3 && !(1..=8).contains(&at_fault) => answer.number = 2,
+            TrailingBytesAsRecords if answer.number == 3 && ![1, 2, 3, 4, 5, 6, 7, 8, 0x11].contains(&at_fault) => {
+                answer.number = 2;
+            }
             InputsSorted => sort_inputs(&mut answer.tree),
-            UnusedGateAccepted if answer.number == 8 && at_fault != 1 => {
+            UnusedGateAccepted if answer.number == 8 && ![1, 0x11].contains(&at_fault) => {
                 answer = ReadAnswer { number: 0, place: 0, tree: Tree::default() };
             }
             TotalJudgedAtTheInput if answer.number == 4 && (2..=3).contains(&at_fault) => {
@@ -262,7 +306,7 @@ impl Library for WrongProgram {
                     answer.place += 2;
                 }
             }
-            _ => answer = wide_read(self.0, bytes, wrong_read(self.0, bytes, answer)),
+            _ => answer = sites_read(self.0, bytes, wide_read(self.0, bytes, wrong_read(self.0, bytes, answer))),
         }
         answer
     }
@@ -270,6 +314,9 @@ impl Library for WrongProgram {
     fn write(&self, tree: &Tree, room: &mut [u8]) -> WriteAnswer {
         if [WideInputsThroughout, InputsCutToAByte].contains(&self.0) {
             return wide_write(self.0, tree, room);
+        }
+        if let Some(answer) = sites_write(self.0, tree, room) {
+            return answer;
         }
         let mut answer = Mirror.write(tree, room);
         match (self.0, answer.number) {
@@ -289,7 +336,18 @@ impl Library for WrongProgram {
         answer
     }
 
+    fn to_sites(&self, bytes: &[u8], room: &mut [u8]) -> WriteAnswer {
+        wrong_to_sites(self.0, bytes, room)
+    }
+
+    fn from_sites(&self, bytes: &[u8], room: &mut [u8]) -> WriteAnswer {
+        wrong_from_sites(self.0, bytes, room)
+    }
+
     fn analyse(&self, bytes: &[u8], mut areas: Areas, added: &mut [u32]) -> AnalyseAnswer {
+        if let Some(refusal) = sites_analysis(self.0, bytes) {
+            return lay_out_analysis(Err(refusal), areas, added);
+        }
         let (nodes_before, added_before) = (areas.nodes.to_vec(), added.to_vec());
         let other = other_steps(self.0, bytes);
         let mut answer = match counted(self.0) {
@@ -340,7 +398,7 @@ impl Library for WrongProgram {
     }
 
     fn export(&self, tree: &Tree, room: &mut [u8]) -> WriteAnswer {
-        wrong_export(self.0, tree, room)
+        sites_export(self.0, tree, room).unwrap_or_else(|| wrong_export(self.0, tree, room))
     }
 
     fn side(&self, yesterday: &[u8], today: &[u8]) -> Verdict {

@@ -1,7 +1,7 @@
 //! Wrong programs, continued: the nodes that each gate adds, and the gate that 10 names.
 
 use crate::analysis::added as differences;
-use crate::judge::{input_length, read};
+use crate::judge::{event_length, input_length, read};
 use crate::library::*;
 use crate::mirror::Mirror;
 use crate::robdd::Robdd;
@@ -27,7 +27,7 @@ fn unused(tree: &Tree, gate: usize) -> usize {
 fn offset(tree: &Tree, gate: usize) -> u64 {
     let own = |gate: &Gate| if gate.kind == AT_LEAST { 3 } else { 2 };
     let before = tree.gates.iter().zip(tree.inputs_by_gate()).take(gate);
-    5 * tree.event_count
+    event_length(tree.sited) * tree.event_count
         + before.map(|(gate, inputs)| own(gate) + inputs.iter().map(input_length).sum::<u64>()).sum::<u64>()
 }
 

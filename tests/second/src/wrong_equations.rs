@@ -305,9 +305,10 @@ pub fn wrong_import(wrong: Wrong, text: &[u8], mut lists: [&mut [u32]; LISTS]) -
         return ImportAnswer { number, place: 0, line, ring: 0, tree: Tree::default() };
     }
     let before = lists[SHOWN].to_vec();
-    let answer = lay_out(answer, lists.each_mut().map(|list| &mut **list));
+    let mut answer = lay_out(answer, lists.each_mut().map(|list| &mut **list));
     match wrong {
         ShownStaysOnRefusal if answer.number != 0 => lists[SHOWN].copy_from_slice(&before),
+        ImportsTheNewForm => answer.tree.sited = answer.number == 0,
         ListLeftDirty => *lists[RING - 1].last_mut().expect("a list has a number") = 1,
         _ => {}
     }

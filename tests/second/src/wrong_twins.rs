@@ -1,6 +1,6 @@
 //! Wrong programs, continued: inputs that stand twice in an at-least gate, and when, where and of what number 5 is judged.
 
-use crate::judge::{input_length, read, Record, Refusal, READER};
+use crate::judge::{event_length, input_length, read, Record, Refusal, READER};
 use crate::library::*;
 use crate::robdd::{Node, Robdd, FALSE, TRUE};
 use crate::tree::*;
@@ -80,7 +80,7 @@ fn doubles_pass(bytes: &[u8]) -> Result<Tree, Refusal> {
         changed.push((place, gate.k as u32));
     }
     let mut tree = read(&passing)?;
-    let mut place = 5 * tree.event_count;
+    let mut place = event_length(tree.sited) * tree.event_count;
     let inputs = tree.inputs_by_gate();
     for (gate, inputs) in tree.gates.iter_mut().zip(inputs) {
         if let Some(&(_, k)) = changed.iter().find(|changed| changed.0 == place) {
@@ -93,7 +93,7 @@ fn doubles_pass(bytes: &[u8]) -> Result<Tree, Refusal> {
 
 /// The tree with no input twice in an and or an or.
 fn joins_without_twins(tree: &Tree) -> Tree {
-    let mut other = Tree::of_chances(&tree.chances);
+    let mut other = Tree { gates: Vec::new(), inputs: Vec::new(), ..tree.clone() };
     for (gate, inputs) in tree.gates.iter().zip(tree.inputs_by_gate()) {
         let inputs = if gate.kind == AT_LEAST { inputs } else { distinct(&inputs) };
         other.add_gate(gate.kind, gate.k, &inputs);

@@ -17,7 +17,7 @@ const OLD_WORDS: usize = 4;
 const OLD_SIZES: usize = 257;
 
 /// The records of some bytes as far as they can be told apart, each with its bytes; then the rest.
-fn records(bytes: &[u8]) -> (Vec<(Record, &[u8])>, &[u8]) {
+pub fn records(bytes: &[u8]) -> (Vec<(Record, &[u8])>, &[u8]) {
     let mut all = Vec::new();
     let mut place = 0;
     while place < bytes.len() {
@@ -29,7 +29,7 @@ fn records(bytes: &[u8]) -> (Vec<(Record, &[u8])>, &[u8]) {
 }
 
 /// The bytes with every record as `change` makes it.
-fn rewritten(bytes: &[u8], change: impl Fn(Record, &[u8]) -> Vec<u8>) -> Vec<u8> {
+pub fn rewritten(bytes: &[u8], change: impl Fn(Record, &[u8]) -> Vec<u8>) -> Vec<u8> {
     let (records, rest) = records(bytes);
     let records = records.into_iter().flat_map(|(record, own)| change(record, own));
     records.chain(rest.iter().copied()).collect()
@@ -56,7 +56,7 @@ pub fn wide_read(wrong: Wrong, bytes: &[u8], mut right: ReadAnswer) -> ReadAnswe
     match (wrong, right.number) {
         (NarrowPasses, 21) => return narrow_passes(bytes),
         (TwentyOneAfterSix, 21) => {
-            let events = bytes.chunks(5).take_while(|record| record[0] == 1).count();
+            let events = records(bytes).0.iter().filter(|(record, _)| matches!(record, Record::Event { .. })).count();
             if at_fault[1] as usize >= events {
                 right.number = 6;
             }

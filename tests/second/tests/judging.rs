@@ -1,7 +1,7 @@
 //! Reading and writing: damage with a known number and place, trees in memory, and the limits.
 
 use second::damage::{damaged, NUMBERS};
-use second::generator::{self, large_shape, middle_shape, small_shape, tree, wide_tree, Shape};
+use second::generator::{self, in_either_form, large_shape, middle_shape, small_shape, tree, wide_tree, Shape};
 use second::judge::{read, refuse, write, write_into, Refusal};
 use second::program::MOST_READ;
 use second::random::Random;
@@ -38,6 +38,7 @@ fn generated_trees_are_accepted() {
             2 => generated(random, large_shape),
             _ => wide_tree(random),
         };
+        let tree = in_either_form(random, tree);
         let bytes = write(&tree).unwrap_or_else(|refusal| panic!("seed {seed}: {refusal:?}"));
         assert!(bytes.len() <= LONGEST_TREE);
         assert_eq!(read(&bytes).as_ref(), Ok(&tree));
@@ -47,7 +48,7 @@ fn generated_trees_are_accepted() {
 
 #[test]
 fn random_bytes_are_answered() {
-    let mut numbers = [0; 22];
+    let mut numbers = [0; 23];
     for seed in 0..50_000 {
         let bytes = generator::bytes(&mut Random::new(seed));
         match read(&bytes) {
@@ -64,7 +65,7 @@ fn random_bytes_are_answered() {
     assert!(numbers[1] > 0 && numbers[2] > 0 && numbers[3] > 0 && numbers[4] > 0);
 }
 
-/// A tree in memory whose fields all fit their bytes is refused as its bytes are.
+/// A tree in memory whose fields all fit their bytes is refused as its bytes are, then with 22 where the old form has no bytes for a site.
 #[test]
 fn writing_refuses_as_reading_does() {
     let mut seen = BTreeSet::new();
@@ -78,12 +79,16 @@ fn writing_refuses_as_reading_does() {
             && tree.inputs.iter().all(|&input| input < FIRST_GATE_INPUT + 65_536);
         if fits {
             match read(&raw_bytes(&tree)) {
-                Ok(_) => assert_eq!(written, Ok(raw_bytes(&tree)), "seed {seed}"),
+                Ok(_) => {
+                    let lost = (0..tree.event_count).find(|&event| !tree.sited && tree.site(event) != 0);
+                    let due = lost.map_or(Ok(raw_bytes(&tree)), |event| refuse(22, 5 * event));
+                    assert_eq!(written, due, "seed {seed}");
+                }
                 Err(refusal) => assert_eq!(written, Err(refusal), "seed {seed}"),
             }
         }
     }
-    assert_eq!(seen.into_iter().collect::<Vec<_>>(), [0, 2, 4, 5, 6, 7, 8]);
+    assert_eq!(seen.into_iter().collect::<Vec<_>>(), [0, 2, 4, 5, 6, 7, 8, 22]);
 }
 
 #[test]
@@ -123,14 +128,15 @@ fn rooms_for_writing() {
     assert_eq!(write_into(&tree, &mut []), refuse(4, 5));
 }
 
-/// The first 20,480 bytes decide any input.
+/// The first 24,576 bytes decide any input.
 #[test]
 fn first_bytes_decide() {
     for seed in 0..300 {
         let random = &mut Random::new(seed);
-        let mut bytes = write(&tree(random, generator::longest_shape())).unwrap();
+        let longest = tree(random, generator::longest_shape());
+        let mut bytes = write(&in_either_form(random, longest)).unwrap();
         bytes.pop();
-        while bytes.len() < 24_000 {
+        while bytes.len() < 28_000 {
             bytes.extend([vec![6, 0, 0], vec![5, 0], vec![8, 0, 1], vec![2, 1]][random.below(4)].iter());
         }
         assert_eq!(read(&bytes).err(), read(&bytes[..MOST_READ]).err());

@@ -3,6 +3,7 @@
 use second::compare::compare_input;
 use second::compare_added::compare_added;
 use second::compare_large::compare_twins;
+use second::compare_sites::compare_sites;
 use second::compare_wide::compare_wide;
 use second::library::Library;
 use second::mirror::Mirror;
@@ -28,7 +29,9 @@ fn the_mirror_passes() {
     assert!(tally.passed > 30_000, "{}", tally.line());
     let numbers = |call| -> Vec<u32> { tally.due.keys().filter(|due| due.0 == call).map(|due| due.1).collect() };
     assert_eq!(numbers("read"), [0, 1, 2, 3, 4, 5, 6, 7, 8, 21]);
-    assert_eq!(numbers("write"), [0, 2, 4, 5, 6, 7, 8, 9]);
+    assert_eq!(numbers("write"), [0, 2, 4, 5, 6, 7, 8, 9, 22]);
+    assert_eq!(numbers("to sites"), [0, 1, 2, 3, 4, 5, 6, 7, 8, 9, 21]);
+    assert_eq!(numbers("from sites"), [0, 1, 2, 3, 4, 5, 6, 7, 8, 9, 21, 22]);
     assert_eq!(numbers("analyse"), [0, 1, 2, 3, 4, 5, 6, 7, 8, 9, 10, 11, 21]);
     assert_eq!(numbers("list"), [0, 12, 13, 14]);
     assert_eq!(numbers("bracket"), [0, 7, 9, 12]);
@@ -124,6 +127,55 @@ fn wide_events_are_told_apart() {
             Wrong::LongCutsOverrun,
             Wrong::ThreeBytesForEach,
             Wrong::TwelveAbove256,
+        ],
+    );
+}
+
+/// Every wrong program about sites, but the one that imports.
+#[test]
+fn sites_are_told_apart() {
+    told_apart(
+        compare_sites,
+        &[
+            Wrong::FormGuessedFromTheSites,
+            Wrong::KindElevenUnknown,
+            Wrong::MixturePasses,
+            Wrong::MixtureAfterFour,
+            Wrong::MixtureAfterSeven,
+            Wrong::MixtureBeforeOne,
+            Wrong::MixtureAtTheFirstEvent,
+            Wrong::SitesHighByteFirst,
+            Wrong::SiteBeforeTheChance,
+            Wrong::SitesNotRead,
+            Wrong::EveryEventHasFiveBytes,
+            Wrong::FormWrittenBySites,
+            Wrong::LostSitesPass,
+            Wrong::WritesTwentyTwoBeforeEight,
+            Wrong::TwentyTwoOfSitesBehind,
+            Wrong::WritesNineBeforeTwentyTwo,
+            Wrong::WritesUntilTwentyTwo,
+            Wrong::WritesPlaceOfTheLastSite,
+            Wrong::WritesPlaceOfSevenBytes,
+            Wrong::MovedTreesRefused,
+            Wrong::ZerosBehindTheMoved,
+            Wrong::MovesUntilFull,
+            Wrong::MovesIntoEitherForm,
+            Wrong::MovesRoomBeforeTheTree,
+            Wrong::SitesSetToZero,
+            Wrong::BackDropsSites,
+            Wrong::BackDropsHighSites,
+            Wrong::BackRefusesTheNewForm,
+            Wrong::BackNineBeforeTwentyTwo,
+            Wrong::BackWritesUntilTwentyTwo,
+            Wrong::BackClearsOnTwentyTwo,
+            Wrong::BackPlaceOfTheLastSite,
+            Wrong::BackPlaceOfFiveBytes,
+            Wrong::BackSaysTheEvent,
+            Wrong::BackTwentyTwoBeforeEight,
+            Wrong::SitesNotAnalysed,
+            Wrong::ExportRefusesSites,
+            Wrong::ExportRefusesLostSites,
+            Wrong::ExportsThePlaceOfTheOldForm,
         ],
     );
 }

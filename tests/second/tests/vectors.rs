@@ -58,16 +58,18 @@ fn reading() {
     assert!(read(&bytes_of("0100CA9A3B 0201 0500 07")).is_ok());
 }
 
-/// 18,944 bytes of records without a fault: no input has fewer than three.
+/// 18,944 bytes of records without a fault, and 20,992 with sites: no input has fewer than three.
 #[test]
 fn longest_run_before_the_end() {
-    let run = longest_run();
-    assert_eq!(run.len(), 18_944);
-    for (tail, number, place) in
-        [("07", 8, 0), ("07 07", 3, 18_945), ("05 00", 3, 18_944), ("02 01", 4, 18_944), ("", 1, 18_944)]
-    {
-        let bytes = [run.clone(), bytes_of(tail)].concat();
-        assert_eq!(read(&bytes), Err(Refusal { number, place }), "{tail}");
+    for (site, length) in [(None, 18_944), (Some(0), 20_992), (Some(5), 20_992)] {
+        let run = longest_run(site);
+        assert_eq!(run.len() as u64, length);
+        for (tail, number, place) in
+            [("07", 8, 0), ("07 07", 3, length + 1), ("05 00", 3, length), ("02 01", 4, length), ("", 1, length)]
+        {
+            let bytes = [run.clone(), bytes_of(tail)].concat();
+            assert_eq!(read(&bytes), Err(Refusal { number, place }), "{tail}");
+        }
     }
 }
 
@@ -76,7 +78,8 @@ fn longest_tree() {
     for seed in 0..20 {
         let tree = tree(&mut Random::new(seed), longest_shape());
         assert_eq!((tree.gates.len(), tree.events(), tree.inputs.len()), (512, 1_024, 4_096));
-        assert_eq!(write(&tree).unwrap().len(), LONGEST_TREE);
+        assert_eq!(write(&tree).unwrap().len(), 18_689);
+        assert_eq!(write(&tree.with_sites(&[])).unwrap().len(), LONGEST_TREE);
     }
 }
 

@@ -12,10 +12,10 @@ use Rattle.arrays.proofs.events_of.Statement.{statement}
 use Rattle.arrays.proofs.events_of.Tie as tie
 
 abbrev Inv-loop : tie.InvT-loop
-Inv-loop chances events₀ i₀ events i = Filled (λ e. record { chance = getD chances e 0 }) noEvent (limits .events) events i
+Inv-loop chances sites events₀ i₀ events i = Filled (λ e. record { chance = getD chances e 0; site = getD sites e 0 }) noEvent (limits .events) events i
 
 abbrev μ-loop : tie.MeasureT-loop
-μ-loop chances events₀ i₀ events i = limits .events - i
+μ-loop chances sites events₀ i₀ events i = limits .events - i
 
 loop-holds : tie.Need-loop-holds Inv-loop μ-loop
 loop-holds c = filled-none _ noEvent refl
@@ -25,6 +25,12 @@ mul-chance c = search needs
 
 element-copy-out-chance : tie.Need-element-copy-out-chance Inv-loop μ-loop
 element-copy-out-chance c = search needs
+
+mul-site : tie.Need-mul-site Inv-loop μ-loop
+mul-site c = search needs
+
+element-copy-out-site : tie.Need-element-copy-out-site Inv-loop μ-loop
+element-copy-out-site c = search needs
 
 mul-events : tie.Need-mul-events Inv-loop μ-loop
 mul-events c = search needs
@@ -39,7 +45,7 @@ loop-less : tie.Need-loop-less Inv-loop μ-loop
 loop-less c = search needs
 
 loop-again : tie.Need-loop-again Inv-loop μ-loop
-loop-again c = filled-more _ noEvent (c .before .before .loop .inv) (omega arith)
+loop-again c = filled-more _ noEvent (c .before .before .before .loop .inv) (omega arith)
 
 returns : tie.Need-returns Inv-loop μ-loop
 unfolding eventsOf
@@ -54,6 +60,8 @@ events-of-spec =
     loop-holds
     mul-chance
     element-copy-out-chance
+    mul-site
+    element-copy-out-site
     mul-events
     array-set-from-events
     add-i

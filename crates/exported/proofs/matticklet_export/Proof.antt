@@ -15,8 +15,8 @@ export-requires c κs = search needs
 number-requires : tie.Need-number-requires
 number-requires c κs = search needs
 
-cast-t16 : tie.Need-cast-t16
-cast-t16 c = search needs
+cast-t18 : tie.Need-cast-t18
+cast-t18 c = search needs
 
 place-requires : tie.Need-place-requires
 place-requires c κs = search needs
@@ -35,7 +35,7 @@ matticklet-export-spec =
     tree-from-requires
     export-requires
     number-requires
-    cast-t16
+    cast-t18
     place-requires
     same-length
     returns)

@@ -1,17 +1,18 @@
 -- `exported::matticklet_import` meets its contract. Assumes nothing.
 use mathlib.Core.Path.{refl}
 use borrow.Author.Needs.{needs}
+use native.Mathlib.Omega.{arith}
 use Rattle.exported.proofs.matticklet_import.Statement.{statement}
 use Rattle.exported.proofs.matticklet_import.Tie as tie
 
 import-requires : tie.Need-import-requires
 import-requires c κs = search needs
 
-cast-t43 : tie.Need-cast-t43
-cast-t43 c = search needs
+cast-t44 : tie.Need-cast-t44
+cast-t44 c = search needs
 
 fill-requires : tie.Need-fill-requires
-fill-requires c κs = search needs
+fill-requires c κs k l h = absurd (omega arith)
 
 same-length : tie.Need-same-length
 same-length c = search needs
@@ -47,14 +48,14 @@ same-length-11 : tie.Need-same-length-11
 same-length-11 c = search needs
 
 returns : tie.Need-returns
-returns c = (c .before .before .before .before .before .before .before .before .before .before .before .before .before .before .before .before .before .before .before .before .before .before .before .before .before .before .before .before .before .before .before .import .result, (c .before .before .before .before .before .before .before .before .before .before .before .before .before .before .before .before .before .before .before .before .before .before .before .before .before .before .before .before .before .before .before .import .ensures, (refl, c .fill .ensures)))
+returns c = (c .before .before .before .before .before .before .before .before .before .before .before .before .before .before .before .before .before .before .before .before .before .before .before .before .before .before .before .before .before .before .before .before .import .result, (c .before .before .before .before .before .before .before .before .before .before .before .before .before .before .before .before .before .before .before .before .before .before .before .before .before .before .before .before .before .before .before .before .import .ensures, (refl, c .fill .ensures)))
 
 pub matticklet-import-spec : {M : Type 1} → statement M
 matticklet-import-spec =
     tie.close
     (tie.spec
     import-requires
-    cast-t43
+    cast-t44
     fill-requires
     same-length
     same-length-2

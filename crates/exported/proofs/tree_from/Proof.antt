@@ -8,7 +8,7 @@ events-of-requires : tie.Need-events-of-requires
 events-of-requires c κs = search needs
 
 returns : tie.Need-returns
-returns c = taken-from _ _ _ _ _ _ _ (c .before .before .before .before .events-of .ensures)
+returns c = taken-from _ _ _ _ _ _ _ _ _ (c .before .before .before .before .events-of .ensures)
 
 pub tree-from-spec : {M : Type 1} → statement M
 tree-from-spec = tie.close (tie.spec events-of-requires returns)

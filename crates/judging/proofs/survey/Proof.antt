@@ -48,17 +48,17 @@ add-admit c = omega (arith, width-small (c .before .tree-record .result), c .wid
 admit-requires : tie.Need-admit-requires Inv-loop μ-loop
 admit-requires c κs = (running-bounded (c .before .before .before .before .before .before .before .before .before .loop .inv .running), omega (arith, c .width .ensures))
 
-enum-known-after : tie.Need-enum-known-after Inv-loop μ-loop
-enum-known-after c = search needs
+enum-known-sited : tie.Need-enum-known-sited Inv-loop μ-loop
+enum-known-sited c = search needs
 
 past-event-requires : tie.Need-past-event-requires Inv-loop μ-loop
 past-event-requires c κs = running-bounded (c .before .before .before .before .before .before .before .before .before .before .before .before .before .loop .inv .running)
 
 loop-less : tie.Need-loop-less Inv-loop μ-loop
-loop-less c = rw (c .past-event .ensures) (omega (arith, survey-sound (c .before .before .before .before .before .before .before .before .before .before .before .before .before .before .loop .inv) (next-is (c .before .before .before .before .before .before .before .before .before .before .before .before .before .before .loop .inv .following) (c .before .before .before .before .before .before .before .before .before .before .before .before .before .within .ensures) (c .before .before .before .before .before .before .tree-record .ensures .0)) (c .before .before .before .before .before .before .tree-record .ensures .1) (sym (c .before .before .after .given .1) ∙ (rw (c .before .before .before .before .before .width .ensures) at (c .before .before .before .before .admit .ensures)))))
+loop-less c = rw (c .past-event .ensures) (omega (arith, survey-sound (c .before .before .before .before .before .before .before .before .before .before .before .before .before .before .loop .inv) (next-is (c .before .before .before .before .before .before .before .before .before .before .before .before .before .before .loop .inv .following) (c .before .before .before .before .before .before .before .before .before .before .before .before .before .within .ensures) (c .before .before .before .before .before .before .tree-record .ensures .0)) (c .before .before .before .before .before .before .tree-record .ensures .1) (sym (c .before .before .sited .given .1) ∙ (rw (c .before .before .before .before .before .width .ensures) at (c .before .before .before .before .admit .ensures)))))
 
 loop-again : tie.Need-loop-again Inv-loop μ-loop
-loop-again c = rw (c .past-event .ensures) (survey-event (c .before .before .before .before .before .before .before .before .before .before .before .before .before .before .loop .inv) (next-is (c .before .before .before .before .before .before .before .before .before .before .before .before .before .before .loop .inv .following) (c .before .before .before .before .before .before .before .before .before .before .before .before .before .within .ensures) (c .before .before .before .before .before .before .tree-record .ensures .0)) (c .before .before .before .before .before .before .tree-record .ensures .1) _ _ (sym (c .before .before .after .given .1) ∙ (rw (c .before .before .before .before .before .width .ensures) at (c .before .before .before .before .admit .ensures))))
+loop-again c = rw (c .past-event .ensures) (survey-event (c .before .before .before .before .before .before .before .before .before .before .before .before .before .before .loop .inv) (next-is (c .before .before .before .before .before .before .before .before .before .before .before .before .before .before .loop .inv .following) (c .before .before .before .before .before .before .before .before .before .before .before .before .before .within .ensures) (c .before .before .before .before .before .before .tree-record .ensures .0)) (c .before .before .before .before .before .before .tree-record .ensures .1) _ _ _ _ (sym (c .before .before .sited .given .1) ∙ (rw (c .before .before .before .before .before .width .ensures) at (c .before .before .before .before .admit .ensures))))
 
 enum-known-size : tie.Need-enum-known-size Inv-loop μ-loop
 enum-known-size c = search needs
@@ -121,16 +121,16 @@ enum-told : tie.Need-enum-told Inv-loop μ-loop
 enum-told c = search needs
 
 unused-in-requires : tie.Need-unused-in-requires Inv-loop μ-loop
-unused-in-requires c κs = survey-ready (c .before .before .before .before .before .before .before .before .before .before .before .before .loop .inv) (next-is (c .before .before .before .before .before .before .before .before .before .before .before .before .loop .inv .following) (c .before .before .before .before .before .before .before .before .before .before .before .within .ensures) (c .before .before .before .before .tree-record .ensures .0)) (c .before .before .before .before .tree-record .ensures .1) (sym (c .enum-told .given .1) ∙ (rw (c .before .before .before .width .ensures) at (c .before .before .admit .ensures)))
+unused-in-requires c κs = survey-ready (c .before .before .before .before .before .before .before .before .before .before .before .before .before .before .before .loop .inv) (next-is (c .before .before .before .before .before .before .before .before .before .before .before .before .before .before .before .loop .inv .following) (c .before .before .before .before .before .before .before .before .before .before .before .before .before .before .within .ensures) (c .before .before .before .before .before .before .before .tree-record .ensures .0)) (c .before .before .before .before .before .before .before .tree-record .ensures .1) (sym (c .before .before .before .enum-told .given .1) ∙ (rw (c .before .before .before .before .before .before .width .ensures) at (c .before .before .before .before .before .admit .ensures)))
 
 add-surveyed : tie.Need-add-surveyed Inv-loop μ-loop
-add-surveyed c = omega (arith, c .before .before .before .before .before .before .before .before .before .before .before .before .before .loop .inv .following .low, running-bounded (c .before .before .before .before .before .before .before .before .before .before .before .before .before .loop .inv .running))
+add-surveyed c = omega (arith, c .before .before .before .before .before .before .before .before .before .before .before .before .before .before .before .before .loop .inv .following .low, running-bounded (c .before .before .before .before .before .before .before .before .before .before .before .before .before .before .before .before .loop .inv .running))
 
 surveyed-requires : tie.Need-surveyed-requires Inv-loop μ-loop
 surveyed-requires c κs = search needs
 
 returns-2 : tie.Need-returns-2 Inv-loop μ-loop
-returns-2 c = survey-close (c .before .before .before .before .before .before .before .before .before .before .before .before .before .before .loop .inv) (next-is (c .before .before .before .before .before .before .before .before .before .before .before .before .before .before .loop .inv .following) (c .before .before .before .before .before .before .before .before .before .before .before .before .before .within .ensures) (c .before .before .before .before .before .before .tree-record .ensures .0)) (c .before .before .before .before .before .before .tree-record .ensures .1) (sym (c .before .before .enum-told .given .1) ∙ (rw (c .before .before .before .before .before .width .ensures) at (c .before .before .before .before .admit .ensures))) (c .before .unused-in .ensures) (c .surveyed .ensures)
+returns-2 c = survey-close (c .before .before .before .before .before .before .before .before .before .before .before .before .before .before .before .before .before .loop .inv) (next-is (c .before .before .before .before .before .before .before .before .before .before .before .before .before .before .before .before .before .loop .inv .following) (c .before .before .before .before .before .before .before .before .before .before .before .before .before .before .before .before .within .ensures) (c .before .before .before .before .before .before .before .before .before .tree-record .ensures .0)) (c .before .before .before .before .before .before .before .before .before .tree-record .ensures .1) (sym (c .before .before .before .before .before .enum-told .given .1) ∙ (rw (c .before .before .before .before .before .before .before .before .width .ensures) at (c .before .before .before .before .before .before .before .admit .ensures))) (c .before .unused-in .ensures) (c .surveyed .ensures)
 
 enum-known-answer : tie.Need-enum-known-answer Inv-loop μ-loop
 enum-known-answer c = search needs
@@ -156,7 +156,7 @@ survey-spec =
     width-requires
     add-admit
     admit-requires
-    enum-known-after
+    enum-known-sited
     past-event-requires
     loop-less
     loop-again

@@ -1,16 +1,22 @@
--- `survey::tree_record` meets its contract.
+-- `judging::tree_record` meets its contract.
 -- Assumes nothing.
-use borrow.Author.Needs.{needs}
 use borrow.Author.Tests.{lt-ltb, le-ltb}
-use Rattle.judging.proofs.Coding.{own-end, own-event, own-and}
+use Rattle.judging.proofs.Coding.{own-end, own-and}
+use borrow.Author.Needs.{needs}
 use Rattle.judging.proofs.tree_record.Statement.{statement}
 use Rattle.judging.proofs.tree_record.Tie as tie
 
+event-record-requires : tie.Need-event-record-requires
+event-record-requires c κs = search needs
+
 returns : tie.Need-returns
-returns c = (simp (lt-ltb _ _ (c .before .before .if1 .taken), lt-ltb _ _ (c .if2 .taken)), own-event _)
+returns c = (simp (lt-ltb _ _ (c .before .before .before .if1 .taken), lt-ltb _ _ (c .before .if2 .taken)) (c .event-record .ensures .0), c .event-record .ensures .1)
+
+event-record-requires-2 : tie.Need-event-record-requires-2
+event-record-requires-2 c κs = search needs
 
 returns-2 : tie.Need-returns-2
-returns-2 c = (simp (lt-ltb _ _ (c .before .before .if1 .taken), le-ltb _ _ (c .if2 .left)), own-event 0)
+returns-2 c = (simp (lt-ltb _ _ (c .before .before .before .if1 .taken), le-ltb _ _ (c .before .if2 .left)) (c .event-record2 .ensures .0), c .event-record2 .ensures .1)
 
 mul-input-record : tie.Need-mul-input-record
 mul-input-record c = search needs
@@ -49,7 +55,9 @@ pub tree-record-spec : {M : Type 1} → statement M
 tree-record-spec =
     tie.close
     (tie.spec
+    event-record-requires
     returns
+    event-record-requires-2
     returns-2
     mul-input-record
     element-copy-out-input-record

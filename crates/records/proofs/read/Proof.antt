@@ -6,9 +6,9 @@ use native.Mathlib.Omega.{arith}
 use denote.Ref.{now}
 use lib.ListN.{length}
 use Rattle.records.specs.Memory.{pad, inMemory}
-use Rattle.records.proofs.Closing.{with-verdict}
-use Rattle.records.proofs.Runs.{running-bounded, running-sound, running-close, running-refused}
-use Rattle.records.proofs.Standing.{Standing, standing-start, standing-event, standing-gate, standing-counted, standing-input, standing-starved, held-fronts}
+use Rattle.records.proofs.Closing.{standing-ready, standing-unused, standing-done, with-verdict}
+use Rattle.records.proofs.Runs.{running-bounded, running-sound, running-refused}
+use Rattle.records.proofs.Standing.{Standing, standing-start, standing-event, standing-gate, standing-counted, standing-input, standing-starved}
 use borrow.Author.Needs.{needs}
 use Rattle.records.proofs.read.Statement.{statement}
 use Rattle.records.proofs.read.Tie as tie
@@ -48,7 +48,7 @@ loop-less : tie.Need-loop-less Inv-loop μ-loop
 loop-less c = rw (c .past-event .ensures) (omega (arith, running-sound (c .before .before .before .before .before .loop .inv .running) (sym (c .before .before .chance .given .1) ∙ c .before .before .before .before .next .ensures)))
 
 loop-again : tie.Need-loop-again Inv-loop μ-loop
-loop-again c = rw (c .past-event .ensures) (standing-event (c .before .before .before .before .before .loop .inv) _ _ (sym (c .before .before .chance .given .1) ∙ c .before .before .before .before .next .ensures))
+loop-again c = rw (c .past-event .ensures) (standing-event (c .before .before .before .before .before .loop .inv) _ _ _ _ (sym (c .before .before .chance .given .1) ∙ c .before .before .before .before .next .ensures))
 
 enum-known-kind : tie.Need-enum-known-kind Inv-loop μ-loop
 enum-known-kind c = search needs
@@ -116,20 +116,35 @@ loop-again-3 c = rw (c .before .before .before .before .before .before .before .
 enum-told : tie.Need-enum-told Inv-loop μ-loop
 enum-told c = search needs
 
-finish-requires : tie.Need-finish-requires Inv-loop μ-loop
-finish-requires c κs = let k = running-sound (c .before .before .before .loop .inv .running) (sym (c .enum-told .given .1) ∙ c .before .before .next .ensures) in let q = c .before .before .before .loop .inv .running .state in (c .before .before .before .loop .inv .running .book, held-fronts (c .before .before .before .loop .inv .held) (c .before .before .before .loop .inv .running .kept), q, rw q at (k .someGate), rw q at (k .none))
+unused-in-requires : tie.Need-unused-in-requires Inv-loop μ-loop
+unused-in-requires c κs = standing-ready (c .before .before .before .before .before .before .before .loop .inv) (sym (c .before .before .before .before .enum-told .given .1) ∙ c .before .before .before .before .before .before .next .ensures)
 
-returns-2 : tie.Need-returns-2 Inv-loop μ-loop
-returns-2 c = with-verdict _ (c .finish .ensures (c .before .before .before .before .loop .inv .running .book) (c .before .before .before .before .loop .inv .held) (held-fronts (c .before .before .before .before .loop .inv .held) (c .before .before .before .before .loop .inv .running .kept)) (c .before .before .before .before .loop .inv .running .state) ∙ ap inMemory (sym (running-close (c .before .before .before .before .loop .inv .running) (sym (c .before .enum-told .given .1) ∙ c .before .before .before .next .ensures))))
-
-enum-known-a : tie.Need-enum-known-a Inv-loop μ-loop
-enum-known-a c = search needs
+enum-known-place : tie.Need-enum-known-place Inv-loop μ-loop
+enum-known-place c = search needs
 
 refused-requires-2 : tie.Need-refused-requires-2 Inv-loop μ-loop
 refused-requires-2 c κs = search needs
 
+returns-2 : tie.Need-returns-2 Inv-loop μ-loop
+returns-2 c = with-verdict _ (c .refused2 .ensures ∙ ap inMemory (sym (standing-unused (c .before .before .before .before .before .before .before .before .before .before .before .before .loop .inv) (sym (c .before .before .before .before .before .before .before .before .before .enum-told .given .1) ∙ c .before .before .before .before .before .before .before .before .before .before .before .next .ensures) (c .before .before .before .before .unused-in .ensures) (c .before .before .place .given .1))))
+
+enum-told-2 : tie.Need-enum-told-2 Inv-loop μ-loop
+enum-told-2 c = search needs
+
+done-requires : tie.Need-done-requires Inv-loop μ-loop
+done-requires c κs = search needs
+
 returns-3 : tie.Need-returns-3 Inv-loop μ-loop
-returns-3 c = with-verdict _ (c .refused2 .ensures ∙ ap inMemory (sym (running-refused (c .before .before .before .before .before .loop .inv .running) _ (sym (c .before .before .a .given .1) ∙ c .before .before .before .before .next .ensures))))
+returns-3 c = with-verdict _ (c .done .ensures ∙ standing-done (c .before .before .before .before .before .before .before .before .before .before .before .loop .inv) (sym (c .before .before .before .before .before .before .before .before .enum-told .given .1) ∙ c .before .before .before .before .before .before .before .before .before .before .next .ensures) (c .before .before .before .unused-in .ensures) (c .before .enum-told2 .given .1))
+
+enum-known-a : tie.Need-enum-known-a Inv-loop μ-loop
+enum-known-a c = search needs
+
+refused-requires-3 : tie.Need-refused-requires-3 Inv-loop μ-loop
+refused-requires-3 c κs = search needs
+
+returns-4 : tie.Need-returns-4 Inv-loop μ-loop
+returns-4 c = with-verdict _ (c .refused3 .ensures ∙ ap inMemory (sym (running-refused (c .before .before .before .before .before .loop .inv .running) _ (sym (c .before .before .a .given .1) ∙ c .before .before .before .before .next .ensures))))
 
 pub read-spec : {M : Type 1} → statement M
 read-spec =
@@ -169,8 +184,13 @@ read-spec =
     loop-less-3
     loop-again-3
     enum-told
-    finish-requires
-    returns-2
-    enum-known-a
+    unused-in-requires
+    enum-known-place
     refused-requires-2
-    returns-3)
+    returns-2
+    enum-told-2
+    done-requires
+    returns-3
+    enum-known-a
+    refused-requires-3
+    returns-4)

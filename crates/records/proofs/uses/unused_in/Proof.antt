@@ -6,26 +6,17 @@ use Rattle.records.proofs.Closing.{gates-fit, places-fit, inputs-fit, c
 use Rattle.records.proofs.uses.unused_in.Statement.{statement}
 use Rattle.records.proofs.uses.unused_in.Tie as tie
 
-array-share-prefix-sizes : tie.Need-array-share-prefix-sizes
-array-share-prefix-sizes c = gates-fit (c .pre .1) (c .pre .2)
-
 slice-aggregate-unused : tie.Need-slice-aggregate-unused
-slice-aggregate-unused c = sym (length-take-le _ _ (gates-fit (c .before .pre .1) (c .before .pre .2)))
-
-array-share-prefix-places : tie.Need-array-share-prefix-places
-array-share-prefix-places c = places-fit (c .before .pre .1) (c .before .pre .2)
+slice-aggregate-unused c = sym (length-take-le _ _ (gates-fit (c .before .before .before .before .pre .1) (c .before .before .before .before .pre .2)))
 
 slice-aggregate-unused-2 : tie.Need-slice-aggregate-unused-2
-slice-aggregate-unused-2 c = sym (length-take-le _ _ (places-fit (c .before .before .pre .1) (c .before .before .pre .2)))
-
-array-share-prefix-inputs : tie.Need-array-share-prefix-inputs
-array-share-prefix-inputs c = inputs-fit (c .before .before .pre .1) (c .before .before .pre .2)
+slice-aggregate-unused-2 c = sym (length-take-le _ _ (places-fit (c .before .before .before .before .before .pre .1) (c .before .before .before .before .before .pre .2)))
 
 slice-aggregate-unused-3 : tie.Need-slice-aggregate-unused-3
-slice-aggregate-unused-3 c = sym (length-take-le _ _ (inputs-fit (c .before .before .before .pre .1) (c .before .before .before .pre .2)))
+slice-aggregate-unused-3 c = sym (length-take-le _ _ (inputs-fit (c .before .before .before .before .before .before .pre .1) (c .before .before .before .before .before .before .pre .2)))
 
 unused-requires : tie.Need-unused-requires
-unused-requires c κs = complete (c .before .before .before .pre .1) (c .before .before .before .pre .2) (c .before .before .before .pre .3) (c .before .before .before .pre .4)
+unused-requires c κs = complete (c .before .before .before .before .before .before .pre .1) (c .before .before .before .before .before .before .pre .2) (c .before .before .before .before .before .before .pre .3) (c .before .before .before .before .before .before .pre .4)
 
 returns : tie.Need-returns
 returns c = λ b h e. found h e (c .unused .ensures)
@@ -34,11 +25,8 @@ pub unused-in-spec : {M : Type 1} → statement M
 unused-in-spec =
     tie.close
     (tie.spec
-    array-share-prefix-sizes
     slice-aggregate-unused
-    array-share-prefix-places
     slice-aggregate-unused-2
-    array-share-prefix-inputs
     slice-aggregate-unused-3
     unused-requires
     returns)

@@ -71,6 +71,30 @@ shared-slice-read-two-4 c = omega (arith, rw (c .before .before .before .before 
 two-requires-2 : tie.Need-two-requires-2
 two-requires-2 c κs = search needs
 
+shared-slice-read-four-5 : tie.Need-shared-slice-read-four-5
+shared-slice-read-four-5 c = omega (arith, rw (c .before .before .before .before .length .ensures, c .before .match .keys8) at (c .before .before .if3 .left))
+
+shared-slice-read-four-6 : tie.Need-shared-slice-read-four-6
+shared-slice-read-four-6 c = omega (arith, rw (c .before .before .before .before .before .length .ensures, c .before .before .match .keys8) at (c .before .before .before .if3 .left))
+
+shared-slice-read-four-7 : tie.Need-shared-slice-read-four-7
+shared-slice-read-four-7 c = omega (arith, rw (c .before .before .before .before .before .before .length .ensures, c .before .before .before .match .keys8) at (c .before .before .before .before .if3 .left))
+
+shared-slice-read-four-8 : tie.Need-shared-slice-read-four-8
+shared-slice-read-four-8 c = omega (arith, rw (c .before .before .before .before .before .before .before .length .ensures, c .before .before .before .before .match .keys8) at (c .before .before .before .before .before .if3 .left))
+
+four-requires-2 : tie.Need-four-requires-2
+four-requires-2 c κs = search needs
+
+shared-slice-read-two-5 : tie.Need-shared-slice-read-two-5
+shared-slice-read-two-5 c = omega (arith, rw (c .before .before .before .before .before .before .before .before .before .length .ensures, c .before .before .before .before .before .before .match .keys8) at (c .before .before .before .before .before .before .before .if3 .left))
+
+shared-slice-read-two-6 : tie.Need-shared-slice-read-two-6
+shared-slice-read-two-6 c = omega (arith, rw (c .before .before .before .before .before .before .before .before .before .before .length .ensures, c .before .before .before .before .before .before .before .match .keys8) at (c .before .before .before .before .before .before .before .before .if3 .left))
+
+two-requires-3 : tie.Need-two-requires-3
+two-requires-3 c κs = search needs
+
 returns-4 : tie.Need-returns-4
 unfolding bodyOf
 returns-4 c = rw (c .four .ensures) (is-whole _ 1 (c .before .before .before .before .before .match .keys1) (c .before .before .before .before .before .before .before .before .before .before .if1 .left) (λ z. omega arith) (rw (c .before .before .before .before .before .before .before .before .length .ensures, c .before .before .before .before .before .match .keys1) at (c .before .before .before .before .before .before .if3 .left)))
@@ -100,7 +124,11 @@ unfolding bodyOf
 returns-10 c = rw (c .two2 .ensures) (is-whole _ 8 (c .before .before .before .match .keys7) (c .before .before .before .before .before .before .before .before .if1 .left) (λ z. omega arith) (rw (c .before .before .before .before .before .before .length .ensures, c .before .before .before .match .keys7) at (c .before .before .before .before .if3 .left)))
 
 returns-11 : tie.Need-returns-11
-returns-11 c = let r = c .match .rest in body-end _ _ (r .0 .0 .0 .0 .0 .0 .1) (r .0 .0 .0 .0 .0 .1) (r .0 .0 .0 .0 .1) (r .0 .0 .0 .1) (r .0 .0 .1) (r .0 .1) (r .1) ∙ is-whole _ _ refl (c .before .before .before .before .before .if1 .left) (λ z. c .before .before .if2 .left (c .before .before .before .length .ensures ∙ z)) (rw (c .before .before .before .length .ensures) at (c .before .if3 .left))
+unfolding bodyOf
+returns-11 c = rw (c .before .before .before .four2 .ensures, c .two3 .ensures) (is-whole _ 17 (c .before .before .before .before .before .before .before .before .match .keys8) (c .before .before .before .before .before .before .before .before .before .before .before .before .before .if1 .left) (λ z. omega arith) (rw (c .before .before .before .before .before .before .before .before .before .before .before .length .ensures, c .before .before .before .before .before .before .before .before .match .keys8) at (c .before .before .before .before .before .before .before .before .before .if3 .left)))
+
+returns-12 : tie.Need-returns-12
+returns-12 c = let r = c .match .rest in body-end _ _ (r .0 .0 .0 .0 .0 .0 .0 .1) (r .0 .0 .0 .0 .0 .0 .1) (r .0 .0 .0 .0 .0 .1) (r .0 .0 .0 .0 .1) (r .0 .0 .0 .1) (r .0 .0 .1) (r .0 .1) (r .1) ∙ is-whole _ _ refl (c .before .before .before .before .before .if1 .left) (λ z. c .before .before .if2 .left (c .before .before .before .length .ensures ∙ z)) (rw (c .before .before .before .length .ensures) at (c .before .if3 .left))
 
 pub decode-spec : {M : Type 1} → statement M
 decode-spec =
@@ -127,6 +155,14 @@ decode-spec =
     shared-slice-read-two-3
     shared-slice-read-two-4
     two-requires-2
+    shared-slice-read-four-5
+    shared-slice-read-four-6
+    shared-slice-read-four-7
+    shared-slice-read-four-8
+    four-requires-2
+    shared-slice-read-two-5
+    shared-slice-read-two-6
+    two-requires-3
     returns-4
     returns-5
     returns-6
@@ -134,4 +170,5 @@ decode-spec =
     returns-8
     returns-9
     returns-10
-    returns-11)
+    returns-11
+    returns-12)

@@ -59,17 +59,17 @@ add-admit c = omega (arith, width-small (c .before .before .before .before .befo
 admit-requires : tie.Need-admit-requires Inv-loop μ-loop
 admit-requires c κs = (running-bounded (c .before .before .before .before .before .before .before .before .before .before .before .before .before .loop .inv .running), omega (arith, c .width .ensures))
 
-enum-known-after : tie.Need-enum-known-after Inv-loop μ-loop
-enum-known-after c = search needs
+enum-known-sited : tie.Need-enum-known-sited Inv-loop μ-loop
+enum-known-sited c = search needs
 
 past-event-requires : tie.Need-past-event-requires Inv-loop μ-loop
 past-event-requires c κs = running-bounded (c .before .before .before .before .before .before .before .before .before .before .before .before .before .before .before .before .before .loop .inv .running)
 
 loop-less : tie.Need-loop-less Inv-loop μ-loop
-loop-less c = rw (c .past-event .ensures) (omega (arith, emit-sound (c .before .before .before .before .before .before .before .before .before .before .before .before .before .before .before .before .before .before .loop .inv) (next-is (c .before .before .before .before .before .before .before .before .before .before .before .before .before .before .before .before .before .before .loop .inv .following) (c .before .before .before .before .before .before .before .before .before .before .before .before .before .before .before .before .before .within .ensures) (c .before .before .before .before .before .before .before .before .before .before .tree-record .ensures .0)) (c .before .before .before .before .before .before .before .before .before .before .tree-record .ensures .1) (c .before .before .before .before .before .before .before .before .put .ensures) (sym (c .before .before .after .given .1) ∙ (rw (c .before .before .before .before .before .width .ensures) at (c .before .before .before .before .admit .ensures)))))
+loop-less c = rw (c .past-event .ensures) (omega (arith, emit-sound (c .before .before .before .before .before .before .before .before .before .before .before .before .before .before .before .before .before .before .loop .inv) (next-is (c .before .before .before .before .before .before .before .before .before .before .before .before .before .before .before .before .before .before .loop .inv .following) (c .before .before .before .before .before .before .before .before .before .before .before .before .before .before .before .before .before .within .ensures) (c .before .before .before .before .before .before .before .before .before .before .tree-record .ensures .0)) (c .before .before .before .before .before .before .before .before .before .before .tree-record .ensures .1) (c .before .before .before .before .before .before .before .before .put .ensures) (sym (c .before .before .sited .given .1) ∙ (rw (c .before .before .before .before .before .width .ensures) at (c .before .before .before .before .admit .ensures)))))
 
 loop-again : tie.Need-loop-again Inv-loop μ-loop
-loop-again c = rw (c .past-event .ensures) (emit-event (c .before .before .before .before .before .before .before .before .before .before .before .before .before .before .before .before .before .before .loop .inv) (next-is (c .before .before .before .before .before .before .before .before .before .before .before .before .before .before .before .before .before .before .loop .inv .following) (c .before .before .before .before .before .before .before .before .before .before .before .before .before .before .before .before .before .within .ensures) (c .before .before .before .before .before .before .before .before .before .before .tree-record .ensures .0)) (c .before .before .before .before .before .before .before .before .before .before .tree-record .ensures .1) (c .before .before .before .before .before .before .before .before .put .ensures) _ _ (sym (c .before .before .after .given .1) ∙ (rw (c .before .before .before .before .before .width .ensures) at (c .before .before .before .before .admit .ensures))))
+loop-again c = rw (c .past-event .ensures) (emit-event (c .before .before .before .before .before .before .before .before .before .before .before .before .before .before .before .before .before .before .loop .inv) (next-is (c .before .before .before .before .before .before .before .before .before .before .before .before .before .before .before .before .before .before .loop .inv .following) (c .before .before .before .before .before .before .before .before .before .before .before .before .before .before .before .before .before .within .ensures) (c .before .before .before .before .before .before .before .before .before .before .tree-record .ensures .0)) (c .before .before .before .before .before .before .before .before .before .before .tree-record .ensures .1) (c .before .before .before .before .before .before .before .before .put .ensures) _ _ _ _ (sym (c .before .before .sited .given .1) ∙ (rw (c .before .before .before .before .before .width .ensures) at (c .before .before .before .before .admit .ensures))))
 
 enum-known-size : tie.Need-enum-known-size Inv-loop μ-loop
 enum-known-size c = search needs
@@ -83,17 +83,17 @@ loop-less-2 c = rw (c .past-gate .ensures) (omega (arith, emit-sound (c .before 
 loop-again-2 : tie.Need-loop-again-2 Inv-loop μ-loop
 loop-again-2 c = rw (c .past-gate .ensures) (emit-gate (c .before .before .before .before .before .before .before .before .before .before .before .before .before .before .before .before .before .before .loop .inv) (next-is (c .before .before .before .before .before .before .before .before .before .before .before .before .before .before .before .before .before .before .loop .inv .following) (c .before .before .before .before .before .before .before .before .before .before .before .before .before .before .before .before .before .within .ensures) (c .before .before .before .before .before .before .before .before .before .before .tree-record .ensures .0)) (c .before .before .before .before .before .before .before .before .before .before .tree-record .ensures .1) (c .before .before .before .before .before .before .before .before .put .ensures) _ _ _ _ (sym (c .before .before .size .given .1) ∙ (rw (c .before .before .before .before .before .width .ensures) at (c .before .before .before .before .admit .ensures))))
 
-enum-known-after-2 : tie.Need-enum-known-after-2 Inv-loop μ-loop
-enum-known-after-2 c = search needs
+enum-known-after : tie.Need-enum-known-after Inv-loop μ-loop
+enum-known-after c = search needs
 
 past-input-requires : tie.Need-past-input-requires Inv-loop μ-loop
-past-input-requires c κs = (running-bounded (c .before .before .before .before .before .before .before .before .before .before .before .before .before .before .before .before .before .loop .inv .running), emit-sound (c .before .before .before .before .before .before .before .before .before .before .before .before .before .before .before .before .before .loop .inv) (next-is (c .before .before .before .before .before .before .before .before .before .before .before .before .before .before .before .before .before .loop .inv .following) (c .before .before .before .before .before .before .before .before .before .before .before .before .before .before .before .before .within .ensures) (c .before .before .before .before .before .before .before .before .before .tree-record .ensures .0)) (c .before .before .before .before .before .before .before .before .before .tree-record .ensures .1) (c .before .before .before .before .before .before .before .put .ensures) (sym (c .before .after2 .given .1) ∙ (rw (c .before .before .before .before .width .ensures) at (c .before .before .before .admit .ensures))) .some)
+past-input-requires c κs = (running-bounded (c .before .before .before .before .before .before .before .before .before .before .before .before .before .before .before .before .before .loop .inv .running), emit-sound (c .before .before .before .before .before .before .before .before .before .before .before .before .before .before .before .before .before .loop .inv) (next-is (c .before .before .before .before .before .before .before .before .before .before .before .before .before .before .before .before .before .loop .inv .following) (c .before .before .before .before .before .before .before .before .before .before .before .before .before .before .before .before .within .ensures) (c .before .before .before .before .before .before .before .before .before .tree-record .ensures .0)) (c .before .before .before .before .before .before .before .before .before .tree-record .ensures .1) (c .before .before .before .before .before .before .before .put .ensures) (sym (c .before .after .given .1) ∙ (rw (c .before .before .before .before .width .ensures) at (c .before .before .before .admit .ensures))) .some)
 
 loop-less-3 : tie.Need-loop-less-3 Inv-loop μ-loop
-loop-less-3 c = rw (c .past-input .ensures) (omega (arith, emit-sound (c .before .before .before .before .before .before .before .before .before .before .before .before .before .before .before .before .before .before .loop .inv) (next-is (c .before .before .before .before .before .before .before .before .before .before .before .before .before .before .before .before .before .before .loop .inv .following) (c .before .before .before .before .before .before .before .before .before .before .before .before .before .before .before .before .before .within .ensures) (c .before .before .before .before .before .before .before .before .before .before .tree-record .ensures .0)) (c .before .before .before .before .before .before .before .before .before .before .tree-record .ensures .1) (c .before .before .before .before .before .before .before .before .put .ensures) (sym (c .before .before .after2 .given .1) ∙ (rw (c .before .before .before .before .before .width .ensures) at (c .before .before .before .before .admit .ensures)))))
+loop-less-3 c = rw (c .past-input .ensures) (omega (arith, emit-sound (c .before .before .before .before .before .before .before .before .before .before .before .before .before .before .before .before .before .before .loop .inv) (next-is (c .before .before .before .before .before .before .before .before .before .before .before .before .before .before .before .before .before .before .loop .inv .following) (c .before .before .before .before .before .before .before .before .before .before .before .before .before .before .before .before .before .within .ensures) (c .before .before .before .before .before .before .before .before .before .before .tree-record .ensures .0)) (c .before .before .before .before .before .before .before .before .before .before .tree-record .ensures .1) (c .before .before .before .before .before .before .before .before .put .ensures) (sym (c .before .before .after .given .1) ∙ (rw (c .before .before .before .before .before .width .ensures) at (c .before .before .before .before .admit .ensures)))))
 
 loop-again-3 : tie.Need-loop-again-3 Inv-loop μ-loop
-loop-again-3 c = rw (c .past-input .ensures) (emit-input (c .before .before .before .before .before .before .before .before .before .before .before .before .before .before .before .before .before .before .loop .inv) (next-is (c .before .before .before .before .before .before .before .before .before .before .before .before .before .before .before .before .before .before .loop .inv .following) (c .before .before .before .before .before .before .before .before .before .before .before .before .before .before .before .before .before .within .ensures) (c .before .before .before .before .before .before .before .before .before .before .tree-record .ensures .0)) (c .before .before .before .before .before .before .before .before .before .before .tree-record .ensures .1) (c .before .before .before .before .before .before .before .before .put .ensures) (c .before .before .before .before .before .before .before .before .before .before .before .before .before .before .before .before .before .before .before .before .before .pre .0) _ _ (sym (c .before .before .after2 .given .1) ∙ (rw (c .before .before .before .before .before .width .ensures) at (c .before .before .before .before .admit .ensures))))
+loop-again-3 c = rw (c .past-input .ensures) (emit-input (c .before .before .before .before .before .before .before .before .before .before .before .before .before .before .before .before .before .before .loop .inv) (next-is (c .before .before .before .before .before .before .before .before .before .before .before .before .before .before .before .before .before .before .loop .inv .following) (c .before .before .before .before .before .before .before .before .before .before .before .before .before .before .before .before .before .within .ensures) (c .before .before .before .before .before .before .before .before .before .before .tree-record .ensures .0)) (c .before .before .before .before .before .before .before .before .before .before .tree-record .ensures .1) (c .before .before .before .before .before .before .before .before .put .ensures) (c .before .before .before .before .before .before .before .before .before .before .before .before .before .before .before .before .before .before .before .before .before .pre .0) _ _ (sym (c .before .before .after .given .1) ∙ (rw (c .before .before .before .before .before .width .ensures) at (c .before .before .before .before .admit .ensures))))
 
 enum-told : tie.Need-enum-told Inv-loop μ-loop
 enum-told c = search needs
@@ -132,7 +132,7 @@ emit-spec =
     width-requires
     add-admit
     admit-requires
-    enum-known-after
+    enum-known-sited
     past-event-requires
     loop-less
     loop-again
@@ -140,7 +140,7 @@ emit-spec =
     past-gate-requires
     loop-less-2
     loop-again-2
-    enum-known-after-2
+    enum-known-after
     past-input-requires
     loop-less-3
     loop-again-3

@@ -1,0 +1,11 @@
+-- `records::done` meets its contract.
+-- Assumes nothing.
+use mathlib.Core.Path.{refl}
+use Rattle.records.proofs.done.Statement.{statement}
+use Rattle.records.proofs.done.Tie as tie
+
+returns : tie.Need-returns
+returns c = refl
+
+pub done-spec : {M : Type 1} → statement M
+done-spec = tie.close (tie.spec returns)
