@@ -31,6 +31,7 @@ static struct matticklet_move moved, back;
 static struct matticklet_analysis analysis;
 static struct matticklet_listing listing;
 static struct matticklet_ends ends;
+static struct matticklet_report reported;
 static struct matticklet_tally tally;
 static struct matticklet_gathered gathered;
 static struct matticklet_export exported;
@@ -82,6 +83,12 @@ static void by_size(void)
 {
     matticklet_sizes(cuts, 3 * CAPACITY, reading.events, analysis.cut_nodes, analysis.cut_root, counts, MATTICKLET_SIZES, less, AREA, work, AREA,
                      reached, AREA, &tally);
+}
+static void report(void)
+{
+    static const uint64_t none[MATTICKLET_SET_WORDS];
+    matticklet_report(2, cuts, 3 * CAPACITY, reading.events, analysis.cut_nodes, analysis.cut_root, chances, reading.events, true, none, room, ROOM,
+                      heads, AREA, next, AREA, &reported);
 }
 static void compare(void) { matticklet_compare(room, listing.used, room, listing.used, &comparison); }
 static void folder(void)
@@ -142,6 +149,7 @@ int main(void)
         bad |= say("list", list, base, &listing.number);
         bad |= say("compare", compare, base, &comparison.number);
         bad |= say("bracket", bracket, base, &ends.number);
+        bad |= say("report", report, base, &reported.number);
         bad |= say("sizes", by_size, base, &tally.number);
         bad |= say("folder", folder, base, &gathered.number);
         bad |= say("export", export_tree, base, &exported.number);

@@ -2,7 +2,7 @@
 # Makes the trees of this directory from their typed equations, and what the program must write for each. The metropolis is typed by metropolis.sh.
 # The .names files say which event and gate got which number; corridor.cuts has the cuts by name, as c/equations prints them, and corridor.sizes,
 # metropolis.sizes and folder.sizes how many there are of each size, in these two and in three trees together, as c/sizes prints them.
-# corridor_sites is the corridor with the sites of corridor.sites.
+# corridor_sites is the corridor with the sites of corridor.sites. corridor.reports has what c/report prints under editions 1 and 2, and 3, which is refused.
 set -e
 cd "$(dirname "$0")"
 cargo build --release --offline --quiet -j1 --manifest-path ../tests/second/Cargo.toml
@@ -18,5 +18,6 @@ $second at corridor.tree $(awk '$1 == "event" { name[$2] = $3; next } NF == 2 { 
 $second program corridor_sites.tree > corridor_sites.out
 awk -f by_name.awk corridor.names corridor.out > corridor.cuts
 $second sizes corridor.tree > corridor.sizes
+for edition in 1 2 3; do $second report corridor.tree $edition; done > corridor.reports
 $second sizes metropolis.tree > metropolis.sizes
 $second sizes case1.tree corridor.tree european1.tree > folder.sizes

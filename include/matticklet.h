@@ -45,7 +45,8 @@ enum {
     MATTICKLET_TOO_MANY = 19,    /* more than 2^64 - 1 cuts of one size */
     MATTICKLET_BAD_LISTING = 20, /* a listing out of order, or with a bad record */
     MATTICKLET_NARROW = 21,      /* an input of kind 08 with a number below 256 */
-    MATTICKLET_SITED = 22        /* a site that isn't 0, where the form to be written has none */
+    MATTICKLET_SITED = 22,       /* a site that isn't 0, where the form to be written has none */
+    MATTICKLET_EDITION = 23      /* an edition of the review rule that there is not */
 };
 
 /* Limits of a tree and of a table. */
@@ -200,6 +201,33 @@ struct matticklet_ends {
 void matticklet_bracket(const uint32_t *nodes, size_t nodes_length, size_t events, size_t count, size_t root,
                         const uint32_t *chances, size_t chances_length, uint32_t *lows, size_t lows_length,
                         uint32_t *highs, size_t highs_length, struct matticklet_ends *answer);
+
+/* Two editions of the review rule. */
+
+struct matticklet_report {
+    uint64_t number;   /* 0, 7, 9, 12, 13, 14 or 23 */
+    uint64_t place;    /* 0 */
+    uint64_t edition;  /* the one that was asked for; 0 in a refusal */
+    uint64_t cuts;     /* written */
+    uint64_t used;     /* bytes of the room */
+    uint64_t finished; /* 1 exactly if no reportable cut comes after `last`; 0 in a refusal */
+    uint64_t last[MATTICKLET_SET_WORDS]; /* the last cut written; where none is, the start; empty in a refusal */
+};
+
+/* Lists the cuts that the review rule tells of, in matticklet_list's order and bytes. Under edition 1 a cut is reportable if it has at most two members;
+ * edition 2 adds every cut whose product of chances is at least 1,000 billionths: the exact product, nothing is rounded. Whatever is reportable under
+ * edition 1 is so under 2.
+ * 23 for any other edition, then 12, 9, 7, 13 and 14. Lengths, otherwise 9: chances at least `events`; few and picks each at least the cut table's capacity.
+ * 7 for a chance above 1 among the first `events`, under edition 1 too. `begin`, `after` and `room` are as with matticklet_list: `after` may be any set of the
+ * events, also a cut that is not reportable; 14 is said of the next reportable cut, and `finished` and `last` of reportable cuts. Done: the room behind the cuts
+ * stays as it was; a refusal leaves all of it so. few and picks are zero to the last number after 0 and 14; every other refusal leaves them as they were.
+ * A part of the diagram that has no reportable cut is passed over as a whole, however many cuts it has. But each call weighs all stated nodes before it lists,
+ * and multiplies out the chances of each one's likeliest cut, whose time grows with the square of its members: so lend large rooms. */
+void matticklet_report(uint32_t edition, const uint32_t *cuts, size_t cuts_length, size_t events, size_t count, size_t root,
+                       const uint32_t *chances, size_t chances_length, bool begin,
+                       const uint64_t after[MATTICKLET_SET_WORDS], uint8_t *room, size_t room_length,
+                       uint32_t *few, size_t few_length, uint32_t *picks, size_t picks_length,
+                       struct matticklet_report *answer);
 
 /* A tree as it is typed: lines in any order, each ended by a line feed, spaced exactly so:
  *   a = b1 or b2      b1 = c1 and c2      x = at-least 2 in u, v, w      x = y, an or of one input

@@ -16,7 +16,7 @@
 enum { GUARD = 72, AREAS = 24 }; /* no area is aligned beyond its need */
 enum { GUARDS_STAND = 1, CONST_AREAS_STAND = 2 };
 enum { READ = 1, WRITE = 2, ANALYSE = 3, LIST = 4, BRACKET = 5, IMPORT = 6, EXPORT = 7, SIZES = 8, FOLDER = 9 };
-enum { SIDE = 10, FIRST_DIFFERENCE = 11, COMPARE = 12, TO_SITES = 13, FROM_SITES = 14 };
+enum { SIDE = 10, FIRST_DIFFERENCE = 11, COMPARE = 12, TO_SITES = 13, FROM_SITES = 14, REPORT = 15 };
 enum { LISTS = 11, RING = 9 }; /* of an import, in the header's order */
 
 struct area {
@@ -221,6 +221,24 @@ static void list_call(void)
     reply(answer, written, 1);
 }
 
+static void report_call(void)
+{
+    uint32_t edition = (uint32_t)number();
+    struct area *cuts = area(4);
+    size_t events = number(), count = number(), root = number();
+    struct area *chances = area(4);
+    bool begin = number() != 0;
+    struct area *after = area(8), *room = area(1), *few = area(4), *picks = area(4);
+    struct area *answer = answer_area(6 + MATTICKLET_SET_WORDS);
+    struct matticklet_report *a = contents(answer);
+    matticklet_report(edition, contents(cuts), cuts->length, events, count, root, contents(chances), chances->length, begin,
+                      contents(after), contents(room), room->length, contents(few), few->length, contents(picks), picks->length, a);
+    if (spoiled == REPORT && a->number == MATTICKLET_ROOM && picks->length > 1)
+        ((uint32_t *)contents(picks))[picks->length - 1] = 1; /* 14 leaves a number standing */
+    struct area *written[] = { room, few, picks };
+    reply(answer, written, 3);
+}
+
 static void bracket_call(void)
 {
     struct area *nodes = area(4);
@@ -362,6 +380,7 @@ int main(int words, char **word)
         case COMPARE: compare_call(); break;
         case TO_SITES: to_sites_call(); break;
         case FROM_SITES: from_sites_call(); break;
+        case REPORT: report_call(); break;
         default: fail("no such call");
         }
         if (fflush(stdout) != 0)

@@ -23,4 +23,7 @@ pub mod Rules
 pub mod Canon
 pub mod SameChance
 pub mod Families
+pub mod Products
+pub mod Reports
+pub mod Entered
 pub mod Promises

@@ -1,4 +1,5 @@
 -- Operations on diagrams, and on the families that diagrams denote.
 pub mod Operations
 pub mod Families
+pub mod Reports
 pub mod Examples

@@ -23,7 +23,7 @@ pub struct Ends {
     pub high: u64,
 }
 
-fn wide(x: u32) -> u64
+pub fn wide(x: u32) -> u64
     ensures { λ r. ⌜ r ≡ x ⌝ }
 {
     x as u64
@@ -88,7 +88,7 @@ fn fill_all(
 }
 
 // Whether the first `n` chances are at most D.
-fn chances_ok(chances: &[u32], n: usize) -> bool
+pub fn chances_ok(chances: &[u32], n: usize) -> bool
     requires { ⌜ n ≤ length (now chances) ⌝ }
     ensures { λ r. ⌜ Says r (Chances n (now (chances .entry))) ⌝ }
 {

@@ -15,9 +15,10 @@ use Rattle.rules.specs.declared.Answer.{Answer}
 use Rattle.records.specs.declared.Event.{Event}
 use Rattle.records.specs.declared.Reading.{Reading}
 use Rattle.records.specs.declared.Tree.{Tree}
+use Rattle.report.specs.declared.Reported.{Reported}
 use Rattle.arrays.specs.Chances.{chancesOf, sitesOf, eventsOf}
 use Rattle.exported.specs.Arrays.{Arrays, arrays, arraysOf, treeFrom, filled, after}
-use Rattle.exported.specs.Numbers.{ofReading, ofWriting}
+use Rattle.exported.specs.Numbers.{ofReading, ofWriting, ofReport}
 
 -- ---- the arrays of a tree
 
@@ -61,3 +62,6 @@ written f room e w q s = told (w ∙ ap (λ t. f t room) e) q s
 
 pub listed : {number place count used : ℕ} (f : Bool) {last answer : List ℕ} → answer ≡ (number ∷ place ∷ count ∷ used ∷ boolByte f ∷ []) ++ last → answer ≡ number ∷ place ∷ count ∷ used ∷ cond f 1 0 ∷ last
 listed {number} {place} {count} {used} f {last} e = e ∙ ap (λ (x : ℕ). number ∷ place ∷ count ∷ used ∷ x ∷ last) (flag f)
+
+pub reported : (r : Reported) {answer : List ℕ} → answer ≡ (r .number ∷ r .place ∷ r .edition ∷ r .count ∷ r .used ∷ boolByte (r .finished) ∷ []) ++ r .last → answer ≡ ofReport r
+reported r e = e ∙ ap (λ (x : ℕ). r .number ∷ r .place ∷ r .edition ∷ r .count ∷ r .used ∷ x ∷ r .last) (flag (r .finished))

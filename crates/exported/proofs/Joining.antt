@@ -4,10 +4,10 @@ use mathlib.Core.Path.{_≡_, sym, ap, _∙_, subst}
 use mathlib.Core.List.{List, _++_}
 use Prim.Native.Nat.{ℕ, _+_, _-_, _≤_, _<_}
 use native.Mathlib.Omega.{arith}
-use lib.ListN.{length, getD, set, replicate, length-append, List·getD-append}
+use lib.ListN.{length, getD, set, length-append, List·getD-append}
 use lib.Seq.{ext-getD, getD-append-add}
 use Rattle.records.specs.Memory.{tabulate}
-use Rattle.arrays.proofs.Filling.{Filled, filled-none, filled-more, filled-all, tabulate-long, tabulate-at}
+use Rattle.arrays.proofs.Filling.{Filled, filled-more, filled-all, tabulate-long, tabulate-at}
 
 module _ (xs ys : List ℕ) where
   pub join-front : {i : ℕ} → i < length xs → getD xs i 0 ≡ getD (xs ++ ys) i 0
@@ -18,13 +18,13 @@ module _ (xs ys : List ℕ) where
       let e : length xs + (i - length xs) ≡ i = omega arith in
       sym (getD-append-add xs ys (i - length xs) 0) ∙ ap (λ (k : ℕ). getD (xs ++ ys) k 0) e
 
--- the first i of n numbers are those of both lists, and zeros follow
+-- the first i of n numbers are those of both lists
 pub record Joining (xs ys : List ℕ) (n : ℕ) (zs : List ℕ) (i : ℕ) : Type 0 where
   pub filled : Filled (λ k. getD (xs ++ ys) k 0) 0 n zs i
 
 module _ {xs ys : List ℕ} {n : ℕ} {zs : List ℕ} where
-  pub join-none : zs ≡ replicate n 0 → Joining xs ys n zs 0
-  join-none e = record { filled = filled-none _ 0 e }
+  pub join-none : length zs ≡ n → Joining xs ys n zs 0
+  join-none e = record { filled = record { within = omega arith; long = e; is = λ k h. absurd (omega arith) } }
 
   module _ {i : ℕ} (f : Joining xs ys n zs i) where
     pub join-more : i < n → {x : ℕ} → x ≡ getD (xs ++ ys) i 0 → Joining xs ys n (set zs i x) (i + 1)

@@ -7,6 +7,7 @@ use Rattle.rules.specs.Answers.{verdict}
 use Rattle.writing.specs.Writes.{Wrote}
 use Rattle.records.specs.declared.Reading.{Reading}
 use Rattle.listing.specs.declared.Listed.{Listed}
+use Rattle.report.specs.declared.Reported.{Reported}
 use Rattle.bracket.specs.declared.Ends.{Ends}
 use Rattle.memory.specs.declared.Analysis.{Analysis}
 use Rattle.equations.specs.declared.Imported.{Imported}
@@ -25,6 +26,10 @@ ofAnalysis a = a .number ∷ a .place ∷ a .nodes ∷ a .«cut_nodes» ∷ a .r
 -- five numbers, and the words of the last set behind them
 abbrev pub ofListing : Listed → List ℕ
 ofListing l = l .number ∷ l .place ∷ l .count ∷ l .used ∷ cond (l .finished) 1 0 ∷ l .last
+
+-- six, and the words of the last set behind them
+abbrev pub ofReport : Reported → List ℕ
+ofReport r = r .number ∷ r .place ∷ r .edition ∷ r .count ∷ r .used ∷ cond (r .finished) 1 0 ∷ r .last
 
 abbrev pub ofBracket : Ends → List ℕ
 ofBracket e = e .number ∷ e .place ∷ e .low ∷ e .high ∷ []

@@ -4,10 +4,11 @@ ghost use mathlib.Core.List.{_++_};
 ghost use Prim.Native.Nat.{_+_, _<_};
 ghost use lib.ListN.{getD, length};
 
-// A listing's numbers before its last set, and all of them.
-pub const HEAD: usize = 5;
+// The numbers of a listing: five, and its last set.
+pub const LISTING: usize = 5 + sets::WORDS;
 
-pub const LISTING: usize = HEAD + sets::WORDS;
+// The numbers of a report, whose edition is one more.
+pub const REPORT: usize = 6 + sets::WORDS;
 
 // The number at a place: of the head, or of the set behind it.
 fn number_at(head: &[u64], last: &[u64], i: usize) -> u64
@@ -21,15 +22,15 @@ fn number_at(head: &[u64], last: &[u64], i: usize) -> u64
     last[i - n]
 }
 
-// The words of a set behind a head.
-pub fn with_set(head: [u64; HEAD], last: [u64; sets::WORDS]) -> [u64; LISTING]
-    ensures { λ r. ⌜ r ≡ head ++ last ⌝ }
+// Puts a head into an answer, and the words of a set behind it.
+pub fn put(head: &[u64], last: &[u64], answer: &mut [u64])
+    requires { ⌜ length (now answer) ≡ length (now head) + length (now last) ⌝ }
+    ensures { λ _. ⌜ now (answer .exit) ≡ now (head .entry) ++ now (last .entry) ⌝ }
 {
-    let mut all = [0; LISTING];
+    let n = answer.len();
     let mut i = 0;
-    while i < LISTING {
-        all[i] = number_at(&head, &last, i);
+    while i < n {
+        answer[i] = number_at(head, last, i);
         i += 1;
     }
-    all
 }

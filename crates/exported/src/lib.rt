@@ -2,6 +2,7 @@
 mod ending; // an answer whose numbers end in the words of a set
 mod listings; // two listings compared
 mod moving; // a tree with sites, and without
+mod reporting; // the cuts that the review rule tells
 
 use arrays::events_of;
 use arrays::put_events;
@@ -231,7 +232,7 @@ pub extern "C" fn matticklet_list(
         r.used as u64,
         r.finished as u64,
     ];
-    *answer = ending::with_set(head, last);
+    ending::put(&head, &last, answer);
 }
 
 // Encloses the chance of the root of a lent diagram. The answer: number, place, low, high.

@@ -52,14 +52,25 @@ pub record Last (room : List ℕ) (from used : ℕ) (S : Set) : Type 0 where
   pub stand : Stand room from (used - 1) events
   pub is : ofEvents events ≡ S
 
+-- the sets left: none where no cut was found; else the first is that of the path, and some stand behind it
+pub record Next (T P : List ℕ) (found : Bool) (d : ℕ) (behind left : List Set) : Type 0 where
+  pub none-left : found ≡ false → left ≡ []
+  pub first : found ≡ true → left ≡ along T (take d P) ∷ behind
+
+pub next-of : {n : ℕ} {T : List ℕ} {c : ℕ} {P : List ℕ} {found : Bool} {d : ℕ} {l : List Set} → Reached n T c P found d l → Next T P found d (around T (take d P) []) l
+next-of {T = T} {P = P} {d = d} r = record {
+  none-left = λ e. r .is ∙ ap (λ (f : Bool). leftOf f T P d) e;
+  first = λ e. r .is ∙ ap (λ (f : Bool). leftOf f T P d) e ∙ around-one T (take d P) [];
+}
+
 -- where the loop is: the cuts written, the last of them in the bytes from `from` on, and those left, the first of which is the path's
-pub record Run (n : ℕ) (T : List ℕ) (c : ℕ) (l : List Set) (base room₀ room P : List ℕ) (found : Bool) (d from used k : ℕ) : Type 0 where
+pub record Run (n : ℕ) (T : List ℕ) (c : ℕ) (l behind : List Set) (base room₀ room P : List ℕ) (found : Bool) (d from used k : ℕ) : Type 0 where
   pub written : List Set
   pub left : List Set
   pub path : Open n T c P d 1
   pub P-long : length P ≡ limits .events
   pub whole : l ≡ written ++ left
-  pub left-is : left ≡ leftOf found T P d
+  pub next : Next T P found d behind left
   pub count : k ≡ length written
   pub count-le : k ≤ used
   pub bytes-used : used ≡ length (setsBytes n written)
@@ -69,14 +80,14 @@ pub record Run (n : ℕ) (T : List ℕ) (c : ℕ) (l : List Set) (base room₀ r
   pub none : k ≡ 0 → used ≤ from
   pub last : 0 < k → (from < used) × Last room from used (lastOr (setOf base) written)
 
-pub run-start : {n : ℕ} {T : List ℕ} {c : ℕ} {l : List Set} {P : List ℕ} {found : Bool} {d : ℕ} (base room₀ : List ℕ) → Reached n T c P found d l → length P ≡ limits .events → Run n T c l base room₀ room₀ P found d 0 0 0
-run-start {l = l} base room₀ r q = record {
+pub run-start : {n : ℕ} {T : List ℕ} {c : ℕ} {l behind : List Set} {P : List ℕ} {found : Bool} {d : ℕ} (base room₀ : List ℕ) → Open n T c P d 1 → Next T P found d behind l → length P ≡ limits .events → Run n T c l behind base room₀ room₀ P found d 0 0 0
+run-start {l = l} base room₀ o x q = record {
   written = [];
   left = l;
-  path = r .path;
+  path = o;
   P-long = q;
   whole = refl;
-  left-is = r .is;
+  next = x;
   count = refl;
   count-le = omega arith;
   bytes-used = refl;
@@ -87,7 +98,7 @@ run-start {l = l} base room₀ r q = record {
   last = λ h. absurd (omega arith);
 }
 
-module _ {n : ℕ} {T : List ℕ} {c : ℕ} {l : List Set} {base room₀ room P : List ℕ} {found : Bool} {d from used k : ℕ} (r : Run n T c l base room₀ room P found d from used k) where
+module _ {n : ℕ} {T : List ℕ} {c : ℕ} {l behind : List Set} {base room₀ room P : List ℕ} {found : Bool} {d from used k : ℕ} (r : Run n T c l behind base room₀ room P found d from used k) where
   pub run-long : length room ≡ length room₀
   run-long = let h = r .within in let u = r .bytes-used in ap length (r .bytes) ∙ simp (length-append, length-drop) (omega arith)
 
@@ -110,7 +121,7 @@ module _ {n : ℕ} {T : List ℕ} {c : ℕ} {l : List Set} {base room₀ room P 
   pub run-end : {last : List ℕ} {a b k′ used′ : ℕ} {last′ : List ℕ} {fin : Bool} → found ≡ false → LastRead room from used base last
       → (a ≡ 0) × (b ≡ 0) × (k′ ≡ k) × (used′ ≡ used) × (last′ ≡ last) × (fin ≡ true) → Listing n l (setOf base) room₀ room a b k′ used′ last′ fin
   run-end {last} e q y =
-      let z : r .left ≡ [] = r .left-is ∙ ap (λ (f : Bool). leftOf f T P d) e in
+      let z : r .left ≡ [] = r .next .none-left e in
       let u = r .bytes-used in
       let w = r .within in
       wrote (record {
@@ -130,8 +141,8 @@ module _ {n : ℕ} {T : List ℕ} {c : ℕ} {l : List Set} {base room₀ room P 
       })
 
   module _ (is : found ≡ true) where
-    next : r .left ≡ along T (take d P) ∷ around T (take d P) []
-    next = r .left-is ∙ ap (λ (f : Bool). leftOf f T P d) is ∙ around-one T (take d P) []
+    first : r .left ≡ along T (take d P) ∷ behind
+    first = r .next .first is
 
     -- the next cut does not fit
     module _ {w : ℕ} {room′ : List ℕ} (z : w ≡ 0) (pl : Placed room used (setBytes n (along T (take d P))) w room′) where
@@ -152,7 +163,7 @@ module _ {n : ℕ} {T : List ℕ} {c : ℕ} {l : List Set} {base room₀ room P 
               let no-byte : used ≡ 0 = r .bytes-used ∙ ap (λ (p : List Set). length (setsBytes n p)) none-written in
               let lr = run-long in
               let lg = long in
-              let all : l ≡ along T (take d P) ∷ around T (take d P) [] = r .whole ∙ ap (λ (p : List Set). p ++ r .left) none-written ∙ next in
+              let all : l ≡ along T (take d P) ∷ behind = r .whole ∙ ap (λ (p : List Set). p ++ r .left) none-written ∙ first in
               short (subst (Short n (length room₀)) (sym all) (omega arith)) (record {
                 is = f .is;
                 no-place = f .no-place;
@@ -175,7 +186,7 @@ module _ {n : ℕ} {T : List ℕ} {c : ℕ} {l : List Set} {base room₀ room P 
                 whole = r .whole;
                 within = omega arith;
                 full = λ S x p.
-                    let same : length (setBytes n (along T (take d P))) ≡ length (setBytes n S) = ap (λ (U : Set). length (setBytes n U)) (same-head (sym next ∙ p)) in
+                    let same : length (setBytes n (along T (take d P))) ≡ length (setBytes n S) = ap (λ (U : Set). length (setBytes n U)) (same-head (sym first ∙ p)) in
                     omega arith;
                 some = λ none. absurd (let a : length (r .written) ≡ 0 = ap length none in let b = r .count in omega arith);
                 is = y .0;
@@ -184,7 +195,7 @@ module _ {n : ℕ} {T : List ℕ} {c : ℕ} {l : List Set} {base room₀ room P 
                 long = y .3 ∙ r .bytes-used;
                 bytes = pl .short z .1 ∙ r .bytes ∙ ap (λ (j : ℕ). setsBytes n (r .written) ++ drop j room₀) (sym (y .3));
                 last-set = ap setOf (y .4) ∙ run-last last (subst (λ (x : List ℕ). LastRead x from used base last) (pl .short z .1) q);
-                end = (λ t. absurd (false≢true (sym (y .5) ∙ t)), λ x. absurd (nil-cons (sym x ∙ next)));
+                end = (λ t. absurd (false≢true (sym (y .5) ∙ t)), λ x. absurd (nil-cons (sym x ∙ first)));
               })
 
     -- it was written
@@ -208,32 +219,32 @@ module _ {n : ℕ} {T : List ℕ} {c : ℕ} {l : List Set} {base room₀ room P 
           let size : w ≡ length (memberBytes t) + 1 = w-is ∙ ap length cut ∙ cut-long t in
           let is : room′ ≡ take used room ++ (memberBytes t ++ back) =
           p .2 ∙ ap (λ (x : List ℕ). take used room ++ (x ++ drop (used + w) room)) cut ∙ ap (λ (x : List ℕ). take used room ++ x) (append-assoc (memberBytes t) (0x22 ∷ []) (drop (used + w) room)) in
-          let behind : drop used room′ ≡ memberBytes t ++ back = ap (drop used) is ∙ drop-at (take used room) (memberBytes t ++ back) used (length-take-le used room (omega arith)) in
+          let stand : drop used room′ ≡ memberBytes t ++ back = ap (drop used) is ∙ drop-at (take used room) (memberBytes t ++ back) used (length-take-le used room (omega arith)) in
           let ends : used + w - 1 ≡ used + length (memberBytes t) = omega arith in
           let rest : drop (used + w - 1) room′ ≡ back =
-          ap (λ (j : ℕ). drop j room′) ends ∙ sym (drop-drop (length (memberBytes t)) used room′) ∙ ap (drop (length (memberBytes t))) behind ∙ drop-at (memberBytes t) back (length (memberBytes t)) refl in
-          let long : length room′ - used ≡ length (memberBytes t) + length back = sym (length-drop used room′) ∙ ap length behind ∙ length-append (memberBytes t) back in
+          ap (λ (j : ℕ). drop j room′) ends ∙ sym (drop-drop (length (memberBytes t)) used room′) ∙ ap (drop (length (memberBytes t))) stand ∙ drop-at (memberBytes t) back (length (memberBytes t)) refl in
+          let long : length room′ - used ≡ length (memberBytes t) + length back = sym (length-drop used room′) ∙ ap length stand ∙ length-append (memberBytes t) back in
           record {
             events = t;
-            stand = record { bytes = behind ∙ ap (λ (x : List ℕ). memberBytes t ++ x) (sym rest); ends = ends; inside = omega arith; below = path-below (r .path) };
+            stand = record { bytes = stand ∙ ap (λ (x : List ℕ). memberBytes t ++ x) (sym rest); ends = ends; inside = omega arith; below = path-below (r .path) };
             is = refl;
           }
 
-      pub run-more : {P′ : List ℕ} {found′ : Bool} {d′ : ℕ} → Reached n T c P′ found′ d′ (around T (take d P) []) → length P′ ≡ limits .events
-          → Run n T c l base room₀ room′ P′ found′ d′ used (used + w) (k + 1)
-      run-more re long′ =
+      pub run-more : {P′ : List ℕ} {found′ : Bool} {d′ : ℕ} {behind′ : List Set} → Open n T c P′ d′ 1 → Next T P′ found′ d′ behind′ behind → length P′ ≡ limits .events
+          → Run n T c l behind′ base room₀ room′ P′ found′ d′ used (used + w) (k + 1)
+      run-more o x long′ =
           let p = pl .placed z in
           let S = along T (take d P) in
-          let q = around T (take d P) [] in
+          let q = behind in
           let cl = r .count-le in
           let used-is : length (setsBytes n (r .written)) ≡ used = sym (r .bytes-used) in
           record {
             written = r .written ++ (S ∷ []);
             left = q;
-            path = re .path;
+            path = o;
             P-long = long′;
-            whole = r .whole ∙ ap (λ (x : List Set). r .written ++ x) next ∙ sym (append-assoc (r .written) (S ∷ []) q);
-            left-is = re .is;
+            whole = r .whole ∙ ap (λ (x : List Set). r .written ++ x) first ∙ sym (append-assoc (r .written) (S ∷ []) q);
+            next = x;
             count = ap (λ (n : ℕ). n + 1) (r .count) ∙ sym (length-append (r .written) (S ∷ []));
             count-le = omega arith;
             bytes-used = ap₂ _+_ (r .bytes-used) (p .0) ∙ sym (ap length (bytes-more n (r .written) S) ∙ length-append (setsBytes n (r .written)) (setBytes n S));

@@ -19,7 +19,7 @@ pub const DEPTH: usize = paper::EVENTS;
 
 // Writes a cut behind the `used` bytes, if it fits there, and says how many bytes it took: 0 where it does not fit. `ahead` and `line` are of the cut before,
 // and `step` says what stayed.
-fn put_next(
+pub fn put_next(
     set: &[u64; sets::WORDS],
     step: walk::Step,
     ahead: &mut [usize; sets::WORDS],
@@ -88,7 +88,12 @@ fn read_back(room: &[u8], from: usize, to: usize) -> [u64; sets::WORDS]
 }
 
 // The last set: that of the last cut, whose bytes run from `from` to `used`; the one that the call started after where there are none.
-fn last_set(room: &[u8], from: usize, used: usize, base: [u64; sets::WORDS]) -> [u64; sets::WORDS]
+pub fn last_set(
+    room: &[u8],
+    from: usize,
+    used: usize,
+    base: [u64; sets::WORDS],
+) -> [u64; sets::WORDS]
     requires { ⌜ (from ≤ used) × (from < used → SomeStand (now room) from (used - 1)) ⌝ }
     ensures { λ r. ⌜ LastRead (now (room .entry)) from used base r ⌝ }
 {
@@ -109,7 +114,7 @@ pub struct Listed {
 }
 
 // A refusal, which writes nothing.
-fn refused(number: u8) -> Listed
+pub fn refused(number: u8) -> Listed
     ensures { λ r. ⌜ Refusal number (r .number) (r .place) (r .count) (r .used) (r .last) (r .finished) ⌝ }
 {
     Listed {
@@ -123,7 +128,7 @@ fn refused(number: u8) -> Listed
 }
 
 // Number 0.
-fn done(count: usize, used: usize, last: [u64; sets::WORDS], finished: bool) -> Listed
+pub fn done(count: usize, used: usize, last: [u64; sets::WORDS], finished: bool) -> Listed
     ensures { λ r. ⌜ (r .number ≡ 0) × (r .place ≡ 0) × (r .count ≡ count) × (r .used ≡ used) × (r .last ≡ last) × (r .finished ≡ finished) ⌝ }
 {
     Listed {
@@ -137,7 +142,7 @@ fn done(count: usize, used: usize, last: [u64; sets::WORDS], finished: bool) -> 
 }
 
 // The answer where the next cut does not fit.
-fn stopped(count: usize, used: usize, last: [u64; sets::WORDS]) -> Listed
+pub fn stopped(count: usize, used: usize, last: [u64; sets::WORDS]) -> Listed
     ensures { λ r. ⌜ Stopped count used last (r .number) (r .place) (r .count) (r .used) (r .last) (r .finished) ⌝ }
 {
     if count == 0 {

@@ -16,6 +16,7 @@ pub mod GoodListing
 pub mod Changes
 pub mod Chance
 pub mod Sizes
+pub mod Reports
 pub mod Answers
 pub mod Bytes
 pub mod Grammar
@@ -29,3 +30,4 @@ pub mod Exporting
 pub mod Spots
 pub mod Cases
 pub mod TextCases
+pub mod ReportCases

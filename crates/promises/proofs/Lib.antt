@@ -13,6 +13,7 @@ pub mod Serving
 pub mod OnTables
 pub mod Delivers
 pub mod BySize
+pub mod Report
 pub mod Old
 pub mod Sites
 pub mod Changed

@@ -27,7 +27,7 @@ use Rattle.listing.proofs.Join.{fitting-split}
 
 -- ---- rooms that any set fits into are never too small
 
-never-short : (n size : ℕ) (l : List Set) → longestCut n ≤ size → Short n size l → ⊥
+pub never-short : (n size : ℕ) (l : List Set) → longestCut n ≤ size → Short n size l → ⊥
 never-short n size [] h s = s
 never-short n size (S ∷ l) h s = let b = set-long n S in omega arith
 
@@ -48,7 +48,7 @@ last-of S (T ∷ w) = go (last-of T w)
     go (inl e) = inr (inl e)
     go (inr h) = inr (inr h)
 
-of-family : (n : ℕ) (d : Diagram) (begin : Bool) (ws : List ℕ) (S : Set) → In S (toList n d begin ws) → In S (setsOf d)
+pub of-family : (n : ℕ) (d : Diagram) (begin : Bool) (ws : List ℕ) (S : Set) → In S (toList n d begin ws) → In S (setsOf d)
 of-family n d true ws S h = h
 of-family n d false ws S h = keep-in (behind n 0 (setOf ws)) S (setsOf d) h .0
 
@@ -59,19 +59,22 @@ start-good : (n : ℕ) (begin : Bool) (ws : List ℕ) → GoodStart n begin ws �
 start-good n true ws ok b = not-beyond n none (λ i h. refl) b
 start-good n false ws ok b = ok refl b
 
-pub hands-on : {n : ℕ} {T : List ℕ} {c root : ℕ} {begin : Bool} {ws room room′ : List ℕ} {place count used : ℕ} {last : List ℕ} {finished : Bool}
-    → Answered n T c root begin ws room room′ 0 place count used last finished → GoodStart n false last
-hands-on (Answered.no-diagram h x) q b = absurd (let e = x .is in omega arith)
-hands-on (Answered.beyond w e p x) q b = absurd (let e = x .is in omega arith)
-hands-on (Answered.short w k s x) q b = absurd (let e = x .is in omega arith)
-hands-on {n} {T} {c} {root} {begin} {ws} {room} (Answered.done v ok s x) q b = go (last-of (startOf begin ws) w) (subst (Beyond n) (x .last-set) b)
+-- of the sets l, as many as fit were written
+pub last-good : (n : ℕ) (begin : Bool) (ws last : List ℕ) (size : ℕ) (l : List Set) → ((S : Set) → In S l → Within n S) → GoodStart n begin ws
+    → setOf last ≡ lastOr (startOf begin ws) (fitting n size l) → GoodStart n false last
+last-good n begin ws last size l within ok e q b = go (last-of (startOf begin ws) (fitting n size l)) (subst (Beyond n) e b)
   where
-    w : List Set
-    w = fitting n (length room) (toList n (den T root) begin ws)
-
-    go : (lastOr (startOf begin ws) w ≡ startOf begin ws) ⊎ In (lastOr (startOf begin ws) w) w → Beyond n (lastOr (startOf begin ws) w) → ⊥
+    go : (lastOr (startOf begin ws) (fitting n size l) ≡ startOf begin ws) ⊎ In (lastOr (startOf begin ws) (fitting n size l)) (fitting n size l) → Beyond n (lastOr (startOf begin ws) (fitting n size l)) → ⊥
     go (inl q) b = start-good n begin ws ok (subst (Beyond n) q b)
     go (inr h) b =
-        let (q, p) = fitting-split n (length room) (toList n (den T root) begin ws) in
-        let k = subst (In (lastOr (startOf begin ws) w)) (sym p) (in-left (lastOr (startOf begin ws) w) w q h) in
-        not-beyond n (lastOr (startOf begin ws) w) (sets-beyond 0 n (den T root) (lastOr (startOf begin ws) w) (root-ordered v) (of-family n (den T root) begin ws (lastOr (startOf begin ws) w) k)) b
+        let (q, p) = fitting-split n size l in
+        let S = lastOr (startOf begin ws) (fitting n size l) in
+        not-beyond n S (within S (subst (In S) (sym p) (in-left S (fitting n size l) q h))) b
+
+pub hands-on : {n : ℕ} {T : List ℕ} {c root : ℕ} {begin : Bool} {ws room room′ : List ℕ} {place count used : ℕ} {last : List ℕ} {finished : Bool}
+    → Answered n T c root begin ws room room′ 0 place count used last finished → GoodStart n false last
+hands-on (Answered.no-diagram h x) = absurd (let e = x .is in omega arith)
+hands-on (Answered.beyond w e p x) = absurd (let e = x .is in omega arith)
+hands-on (Answered.short w k s x) = absurd (let e = x .is in omega arith)
+hands-on {n} {T} {c} {root} {begin} {ws} {room} {last = last} (Answered.done v ok s x) =
+    last-good n begin ws last (length room) (toList n (den T root) begin ws) (λ S h. sets-beyond 0 n (den T root) S (root-ordered v) (of-family n (den T root) begin ws S h)) ok (x .last-set)

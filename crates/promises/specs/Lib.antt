@@ -1,9 +1,10 @@
--- Why an analysis answers as it does, when two outcomes are the same, the three promises of an analysis in one, its cuts by size, and what sites are to it.
+-- Why an analysis answers as it does, when two outcomes are the same, the three promises of an analysis in one, its cuts by size, its report, and what sites are to it.
 pub mod Reasons
 pub mod Coincide
 pub mod Delivers
 pub mod Memo
 pub mod BySize
+pub mod Report
 pub mod Old
 pub mod Sites
 pub mod Changed

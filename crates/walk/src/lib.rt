@@ -153,7 +153,7 @@ pub fn advance(
 }
 
 // Follows the set `s` from the root: the cuts after it are those from the answer's node down, and those left by the path.
-fn seek(
+pub fn seek(
     nodes: &[u32],
     n: usize,
     count: usize,

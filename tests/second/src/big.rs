@@ -40,19 +40,27 @@ impl Big {
     }
 
     pub fn times(&self, factor: u32) -> Big {
-        let mut product = Vec::new();
-        let mut carry = 0;
-        for &limb in &self.0 {
-            let column = limb as u64 * factor as u64 + carry;
-            product.push(column as u32);
-            carry = column >> 32;
-        }
-        product.push(carry as u32);
-        Big(product).trimmed()
+        self.times_all(&[factor])
     }
 
     pub fn times_power(&self, factor: u32, exponent: u32) -> Big {
-        (0..exponent).fold(self.clone(), |product, _| product.times(factor))
+        self.times_all(&vec![factor; exponent as usize])
+    }
+
+    pub fn times_all(&self, factors: &[u32]) -> Big {
+        let mut product = self.0.clone();
+        for &factor in factors {
+            let mut carry = 0;
+            for limb in &mut product {
+                let column = *limb as u64 * factor as u64 + carry;
+                *limb = column as u32;
+                carry = column >> 32;
+            }
+            if carry > 0 {
+                product.push(carry as u32);
+            }
+        }
+        Big(product).trimmed()
     }
 
     /// Quotient and remainder.

@@ -5,6 +5,7 @@ use crate::compare_added::{compare_added_list, meet_added, meet_refusal};
 use crate::compare_changes::compare_pairs;
 use crate::compare_equations::{compare_texts, compare_trees};
 use crate::compare_lent::{compare_bracket, compare_list};
+use crate::compare_reports::compare_report;
 use crate::compare_sites::{compare_forms, compare_moves};
 use crate::compare_sizes::{compare_folders, compare_sizes};
 use crate::damage::{damaged, NUMBERS};
@@ -85,6 +86,7 @@ pub fn compare_diagram(library: &dyn Library, diagram: &Lent, random: &mut Rando
         Sort::Cuts => {
             compare_list(library, diagram, random, tally);
             compare_sizes(library, diagram, random, tally);
+            compare_report(library, diagram, None, random, tally);
         }
     }
 }
@@ -267,7 +269,7 @@ fn compare_tables(done: &Analysis, got: &AnalyseAnswer, memory: &Memory, tally: 
     tally.same("the cut root", Some(done.cuts.root), ours(&map, got.cut_root));
 }
 
-/// The library's own tables lent to its listing and its bracket.
+/// The library's own tables lent to its listing, its counting, its report and its bracket.
 fn compare_uses(
     library: &dyn Library,
     done: &Analysis,
@@ -289,6 +291,7 @@ fn compare_uses(
     tally.holds("built diagrams are diagrams", function.is_diagram() && family.is_diagram());
     compare_list(library, &family, random, tally);
     compare_sizes(library, &family, random, tally);
+    compare_report(library, &family, Some(&done.tree.chances), random, tally);
     compare_bracket(library, &function, Some(&done.tree.chances), random, tally);
     if random.once_in(8) {
         // Each taken for the other kind: answered for what it denotes, if it keeps that kind's rules.

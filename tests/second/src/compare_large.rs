@@ -1,4 +1,4 @@
-//! The fixed inputs of every run: requests 3, 6, 7 and 8 case by case, trees of known numbers at exact capacities, the longest bytes, the limits of lengths.
+//! The fixed inputs of every run: requests 3, 6, 7, 8 and 9 case by case, trees of known numbers at exact capacities, the longest bytes, the limits of lengths.
 
 use crate::analysis::{analyse, Lengths};
 use crate::city::{self, city};
@@ -7,6 +7,7 @@ use crate::compare_added::compare_added;
 use crate::compare_changes::{case_1, compare_listings};
 use crate::compare_equations::{compare_export, compare_import};
 use crate::compare_lent::one_listing;
+use crate::compare_reports::{compare_longest_cuts, compare_named_reports, compare_reviews};
 use crate::compare_sites::compare_sites;
 use crate::compare_sizes::compare_figures;
 use crate::compare_wide::compare_wide;
@@ -30,6 +31,8 @@ pub fn compare_large(library: &dyn Library, tally: &mut Tally) {
     compare_added(library, random, tally);
     compare_wide(library, random, tally);
     compare_sites(library, random, tally);
+    compare_reviews(library, random, tally);
+    compare_longest_cuts(library, random, tally);
     compare_named(library, "European 1", &european_1(), random, tally);
     compare_named(library, "a small city", &city(city::SMALL), random, tally);
     compare_named(library, "a middle city", &city(city::MIDDLE), random, tally);
@@ -96,6 +99,7 @@ fn compare_named(library: &dyn Library, name: &'static str, tree: &Tree, random:
             break;
         }
     }
+    compare_named_reports(library, &family, &tree.chances, random, tally, name);
 }
 
 /// The longest runs of records without a fault, and what may follow them.

@@ -5,6 +5,7 @@ use crate::changes::{Comparison, Difference, Side, Verdict};
 use crate::equations::LISTS;
 use crate::lent::Lent;
 use crate::library::*;
+use crate::report::REPORT_AREAS;
 use crate::sets::{Set, WORDS};
 use crate::sizes::COUNT_AREAS;
 use crate::tree::Tree;
@@ -26,6 +27,7 @@ const FIRST_DIFFERENCE: u64 = 11;
 const COMPARE: u64 = 12;
 const TO_SITES: u64 = 13;
 const FROM_SITES: u64 = 14;
+const REPORT: u64 = 15;
 
 /// What the driver says of a call when every guard and every constant area stands.
 const ALL_STANDS: u64 = 3;
@@ -80,6 +82,12 @@ impl Request {
         let mut request = self.number(area.len() as u64);
         request.0.extend(area.iter().flat_map(|number| number.to_le_bytes()));
         request
+    }
+
+    /// Where a listing starts. From the beginning the set is not looked at.
+    fn start(self, after: Option<Set>, dirt: usize) -> Request {
+        let words = after.map_or([u64::MAX, 1, 0, dirt as u64].repeat(WORDS / 4), |set| set.0.to_vec());
+        self.number(u64::from(after.is_none())).words(&words)
     }
 }
 
@@ -141,6 +149,14 @@ impl Driver {
             rest = others;
         }
         answer
+    }
+
+    /// A flag of an answer.
+    fn flag(&self, word: u64) -> bool {
+        if word > 1 && self.fault.get().is_none() {
+            self.fault.set(Some("a flag is neither 0 nor 1"));
+        }
+        word == 1
     }
 
     /// The tree that a call left in the arrays, which a refusal leaves as they were lent.
@@ -262,6 +278,10 @@ impl Library for Driver {
         [capacity + 2; COUNT_AREAS]
     }
 
+    fn smallest_report_areas(&self, capacity: usize) -> [usize; REPORT_AREAS] {
+        [capacity; REPORT_AREAS]
+    }
+
     fn read(&self, bytes: &[u8]) -> ReadAnswer {
         let lent = Arrays::dirty(seed(bytes));
         let mut arrays = lent.clone();
@@ -293,17 +313,24 @@ impl Library for Driver {
 
     fn list(&self, diagram: &Lent, after: Option<Set>, room: &mut [u8]) -> ListAnswer {
         let request = Request::of(LIST).numbers(&diagram.table).number(diagram.event_count).number(diagram.node_count);
-        let request = request.number(diagram.root).number(u64::from(after.is_none()));
-        // From the beginning the set is not looked at.
-        let request = request
-            .words(&after.map_or([u64::MAX, 1, 0, room.len() as u64].repeat(WORDS / 4), |set| set.0.to_vec()))
-            .bytes(room);
+        let request = request.number(diagram.root).start(after, room.len()).bytes(room);
         let [number, place, written, used, finished, last @ ..]: [u64; 5 + WORDS] =
             self.ask(request, &mut [Area::Bytes(room)]);
-        if finished > 1 && self.fault.get().is_none() {
-            self.fault.set(Some("finished is neither 0 nor 1"));
-        }
-        ListAnswer { number: small(number), place, written, used, last: Set(last), finished: finished == 1 }
+        let finished = self.flag(finished);
+        ListAnswer { number: small(number), place, written, used, last: Set(last), finished }
+    }
+
+    fn report(&self, diagram: &Lent, asked: Asked, room: &mut [u8], work: [&mut [u32]; REPORT_AREAS]) -> ReportAnswer {
+        let Asked { edition, chances, after } = asked;
+        let request = Request::of(REPORT).number(edition as u64).numbers(&diagram.table);
+        let request = request.number(diagram.event_count).number(diagram.node_count).number(diagram.root);
+        let [few, picks] = work;
+        let request = request.numbers(chances).start(after, room.len()).bytes(room).numbers(few).numbers(picks);
+        let [number, place, edition, written, used, finished, last @ ..]: [u64; 6 + WORDS] =
+            self.ask(request, &mut [Area::Bytes(room), Area::Numbers(few), Area::Numbers(picks)]);
+        let finished = self.flag(finished);
+        let listing = ListAnswer { number: small(number), place, written, used, last: Set(last), finished };
+        ReportAnswer { edition, listing }
     }
 
     fn bracket(&self, diagram: &Lent, chances: &[u32], work: [&mut [u32]; 2]) -> BracketAnswer {

@@ -2,6 +2,7 @@
 
 use crate::lent::{Lent, Sort};
 use crate::random::Random;
+use crate::sets::Set;
 
 /// A table that grows node by node.
 #[derive(Default)]
@@ -92,6 +93,39 @@ pub fn all_but_one(pairs: u32) -> Lent {
     table.lent(2 * pairs, less)
 }
 
+/// One of each of so many pairs of events, which are 2^pairs sets; and behind them all, where wanted, the set of so many events more.
+pub fn pairs_and_one(pairs: u32, more: Option<u32>) -> Lent {
+    let mut table = Table::default();
+    let events = 2 * pairs + more.unwrap_or(0);
+    let last = more.map_or(0, |_| (2 * pairs..events).rev().fold(1, |below, event| table.put(event, below, 0)));
+    let mut whole = 1;
+    for pair in (0..pairs).rev() {
+        let second = table.put(2 * pair + 1, whole, if pair == 0 { last } else { 0 });
+        whole = table.put(2 * pair, whole, second);
+    }
+    table.lent(events, whole)
+}
+
+/// These sets, in order, of so many events; one set at least.
+pub fn of_sets(events: u32, sets: &[Set]) -> Lent {
+    let mut table = Table::default();
+    let root = below(&mut table, events, 0, sets);
+    table.lent(events, root)
+}
+
+/// The node of the sets, which agree on the events before this one.
+fn below(table: &mut Table, events: u32, event: u32, sets: &[Set]) -> u32 {
+    if event == events || sets.is_empty() {
+        return u32::from(!sets.is_empty());
+    }
+    let (with, without): (Vec<Set>, Vec<Set>) = sets.iter().partition(|set| set.holds(event));
+    let sound = below(table, events, event + 1, &without);
+    match below(table, events, event + 1, &with) {
+        0 => sound,
+        failed => table.put(event, failed, sound),
+    }
+}
+
 /// Every set of so many events: of size k as many as k can be chosen.
 pub fn every_set(events: u32) -> Lent {
     let mut table = Table::default();
@@ -107,7 +141,8 @@ pub fn one_set(events: u32) -> Lent {
 }
 
 pub fn seeded(random: &mut Random) -> Lent {
-    match random.below(12) {
+    match random.below(13) {
+        12 => pairs_and_one(random.between(1, 66) as u32, random.of(&[None, Some(0), Some(2), Some(3)])),
         0 => all_but_one(random.between(1, 66) as u32),
         1 => all_but_one(64),
         2 => every_set(random.of(&[1, 12, 67, 68, 256, 1_024])),

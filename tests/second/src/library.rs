@@ -4,6 +4,7 @@
 use crate::changes::{Comparison, Difference, Verdict};
 use crate::equations::LISTS;
 use crate::lent::Lent;
+use crate::report::REPORT_AREAS;
 use crate::sets::Set;
 use crate::sizes::COUNT_AREAS;
 use crate::tree::Tree;
@@ -75,6 +76,22 @@ pub struct FolderAnswer {
     pub tree: u64,
 }
 
+/// The edition beside what a listing call answers.
+#[derive(Clone, Copy, Debug, PartialEq, Eq)]
+pub struct ReportAnswer {
+    pub edition: u64,
+    pub listing: ListAnswer,
+}
+
+/// What a report call is asked beside its diagram.
+#[derive(Clone, Copy, Debug)]
+pub struct Asked<'a> {
+    pub edition: u32,
+    pub chances: &'a [u32],
+    /// `None` is "from the beginning".
+    pub after: Option<Set>,
+}
+
 /// What an analysis is lent, and a folder too; an analysis has one list more.
 pub struct Areas<'a> {
     pub nodes: &'a mut [u32],
@@ -123,6 +140,7 @@ pub trait Library {
     fn smallest_areas(&self, node_capacity: usize, cut_capacity: usize) -> [usize; 4];
     fn smallest_bracket_areas(&self, capacity: usize) -> [usize; 2];
     fn smallest_count_areas(&self, capacity: usize) -> [usize; COUNT_AREAS];
+    fn smallest_report_areas(&self, capacity: usize) -> [usize; REPORT_AREAS];
 
     fn read(&self, bytes: &[u8]) -> ReadAnswer;
     fn write(&self, tree: &Tree, room: &mut [u8]) -> WriteAnswer;
@@ -134,6 +152,7 @@ pub trait Library {
     /// `None` is "from the beginning".
     fn list(&self, diagram: &Lent, after: Option<Set>, room: &mut [u8]) -> ListAnswer;
     fn bracket(&self, diagram: &Lent, chances: &[u32], work: [&mut [u32]; 2]) -> BracketAnswer;
+    fn report(&self, diagram: &Lent, asked: Asked, room: &mut [u8], work: [&mut [u32]; REPORT_AREAS]) -> ReportAnswer;
     fn import(&self, text: &[u8], lists: [&mut [u32]; LISTS]) -> ImportAnswer;
     fn export(&self, tree: &Tree, room: &mut [u8]) -> WriteAnswer;
     fn side(&self, yesterday: &[u8], today: &[u8]) -> Verdict;

@@ -15,7 +15,7 @@ pub struct Listing {
     pub finished: bool,
 }
 
-fn refused(number: u32) -> Listing {
+pub fn refused(number: u32) -> Listing {
     Listing { number, place: 0, written: 0, bytes: Vec::new(), last: Set::EMPTY, finished: false }
 }
 
@@ -24,10 +24,20 @@ pub fn list(diagram: &Lent, after: Option<Set>, room: usize) -> Listing {
     if !diagram.is_diagram() {
         return refused(12);
     }
-    let beyond = diagram.event_count as u32..MOST_EVENTS as u32;
-    if after.is_some_and(|start| start.holds_any(beyond)) {
+    if names_beyond(diagram, after) {
         return refused(13);
     }
+    fill(Walk::new(diagram, after), after, room)
+}
+
+/// Whether the start names an event beyond the diagram's; 13 then.
+pub fn names_beyond(diagram: &Lent, after: Option<Set>) -> bool {
+    let beyond = diagram.event_count as u32..MOST_EVENTS as u32;
+    after.is_some_and(|start| start.holds_any(beyond))
+}
+
+/// As many of the cuts as fit; 14 where the first does not.
+pub fn fill(cuts: impl Iterator<Item = Set>, after: Option<Set>, room: usize) -> Listing {
     let mut answer = Listing {
         number: 0,
         place: 0,
@@ -36,7 +46,7 @@ pub fn list(diagram: &Lent, after: Option<Set>, room: usize) -> Listing {
         last: after.unwrap_or(Set::EMPTY),
         finished: true,
     };
-    for cut in Walk::new(diagram, after) {
+    for cut in cuts {
         let bytes = cut.cut_bytes();
         if answer.bytes.len() + bytes.len() > room {
             if answer.written == 0 {
@@ -52,11 +62,15 @@ pub fn list(diagram: &Lent, after: Option<Set>, room: usize) -> Listing {
     answer
 }
 
+/// Whether to look below a node, reached with these members.
+pub type Enter<'a> = Box<dyn Fn(u32, &Set) -> bool + 'a>;
+
 /// The sets of the denoted family in order, those after the start only. Under a node the sets that
 /// hold its event come first: they are those of the failed branch.
 pub struct Walk<'a> {
     diagram: &'a Lent,
     start: Set,
+    enter: Enter<'a>,
     /// What is still to be visited, the next on top.
     open: Vec<Open>,
 }
@@ -72,8 +86,13 @@ struct Open {
 
 impl<'a> Walk<'a> {
     pub fn new(diagram: &'a Lent, after: Option<Set>) -> Walk<'a> {
+        Walk::where_worth(diagram, after, Box::new(|_, _| true))
+    }
+
+    /// The walk that passes over what it does not enter.
+    pub fn where_worth(diagram: &'a Lent, after: Option<Set>, enter: Enter<'a>) -> Walk<'a> {
         let whole = Open { node: diagram.root_node(), members: Set::EMPTY, decided: 0, tied: after.is_some() };
-        Walk { diagram, start: after.unwrap_or(Set::EMPTY), open: vec![whole] }
+        Walk { diagram, start: after.unwrap_or(Set::EMPTY), enter, open: vec![whole] }
     }
 }
 
@@ -82,7 +101,7 @@ impl Iterator for Walk<'_> {
 
     fn next(&mut self) -> Option<Set> {
         while let Some(Open { node, members, decided, tied }) = self.open.pop() {
-            if node == 0 {
+            if node == 0 || !(self.enter)(node, &members) {
                 continue;
             }
             if node == 1 {

@@ -13,6 +13,7 @@ use second::listing::list;
 use second::moves::{from_sites, to_sites};
 use second::program::{program, report};
 use second::random::Random;
+use second::report::{refusal, reportable_cuts};
 use second::sizes::{folder, RefusedFolder};
 use second::tree::Tree;
 use std::io::{self, Read, Write};
@@ -32,6 +33,7 @@ second to-sites FILE           a tree's bytes in the form with sites, or the ref
 second from-sites FILE         in the form without
 second at FILE SITE..          in the form with sites, its events at these
 second sizes FILE..            how many cuts of each size the trees have together
+second report FILE EDITION     the cuts that are reportable under an edition of the review rule
 second city SIZE               the equations of a city-like tree: small, middle, large, or wide of 900 events
 second random SEED [wide|sited]  the bytes of a seeded tree of middle size, or of 255 to 1,024 events, or with sites
 a FILE of - is the standard input";
@@ -82,6 +84,7 @@ fn main() {
         "from-sites" => moved(from_sites(&bytes), out),
         "at" => at(&bytes, &words[2..], out),
         "sizes" => by_size(&words[1..], out),
+        "report" => reviewed(&bytes, words.get(2).map_or(0, number) as u32, out),
         other => {
             eprintln!("unknown: {other}\n{USAGE}");
             exit(2);
@@ -244,6 +247,23 @@ fn moved(moved: Result<Vec<u8>, Refusal>, out: &mut dyn Write) -> io::Result<()>
 fn at(bytes: &[u8], sites: &[String], out: &mut dyn Write) -> io::Result<()> {
     let sites: Vec<u16> = sites.iter().map(|site| site.parse().expect("a site")).collect();
     moved(read(bytes).and_then(|tree| write(&tree.with_sites(&sites))), out)
+}
+
+fn reviewed(bytes: &[u8], edition: u32, out: &mut dyn Write) -> io::Result<()> {
+    let done = match analyse(bytes, Lengths::AMPLE) {
+        Ok(done) => done,
+        Err(Refusal { number, place }) => return writeln!(out, "refused {number} at {place}"),
+    };
+    let (family, chances) = (done.lent_cuts(), &done.tree.chances);
+    if let Some(number) = refusal(edition, &family, chances, true, None) {
+        return writeln!(out, "refused {number}");
+    }
+    writeln!(out, "edition {edition}")?;
+    for cut in reportable_cuts(edition, &family, chances, None) {
+        let members: Vec<String> = cut.members().iter().map(u32::to_string).collect();
+        writeln!(out, "{}", members.join(" "))?;
+    }
+    Ok(())
 }
 
 fn by_size(files: &[String], out: &mut dyn Write) -> io::Result<()> {

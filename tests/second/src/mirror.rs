@@ -8,8 +8,9 @@ use crate::equations::{export_into, import, Import, LISTS, RING, SHOWN};
 use crate::judge::{read, write_into, Refusal};
 use crate::lent::Lent;
 use crate::library::*;
-use crate::listing::list;
+use crate::listing::{list, Listing};
 use crate::moves::{from_sites_into, to_sites_into};
+use crate::report::{report, Report, REPORT_AREAS};
 use crate::sets::Set;
 use crate::sizes::{folder, sizes, RefusedFolder, COUNT_AREAS, SIZES};
 use crate::tree::{Tree, MOST_GATES};
@@ -26,6 +27,19 @@ pub fn told(written: Result<usize, Refusal>) -> WriteAnswer {
     match written {
         Ok(used) => WriteAnswer { number: 0, place: 0, used: used as u64 },
         Err(Refusal { number, place }) => WriteAnswer { number, place, used: 0 },
+    }
+}
+
+/// What is answered where cuts go to the front of a room.
+pub fn lay_out_cuts(listing: &Listing, room: &mut [u8]) -> ListAnswer {
+    room[..listing.bytes.len()].copy_from_slice(&listing.bytes);
+    ListAnswer {
+        number: listing.number,
+        place: listing.place,
+        written: listing.written as u64,
+        used: listing.bytes.len() as u64,
+        last: listing.last,
+        finished: listing.finished,
     }
 }
 
@@ -85,6 +99,12 @@ impl Mirror {
         counting.counts.len() >= SIZES && counting.work.iter().zip(smallest).all(|(area, least)| area.len() >= least)
     }
 
+    /// Whether the areas of a report are long enough for a table of so many numbers.
+    pub fn report_suffices(&self, table: usize, work: &[&mut [u32]; REPORT_AREAS]) -> bool {
+        let smallest = self.smallest_report_areas(table / 3);
+        work.iter().zip(smallest).all(|(area, least)| area.len() >= least)
+    }
+
     /// With a list of added nodes that is long enough.
     pub fn lengths(&self, areas: &Areas) -> Lengths {
         let smallest = self.smallest_areas(areas.nodes.len() / 3, areas.cuts.len() / 3);
@@ -112,6 +132,10 @@ impl Library for Mirror {
         [capacity + 2; COUNT_AREAS]
     }
 
+    fn smallest_report_areas(&self, capacity: usize) -> [usize; REPORT_AREAS] {
+        [capacity; REPORT_AREAS]
+    }
+
     fn read(&self, bytes: &[u8]) -> ReadAnswer {
         match read(bytes) {
             Ok(tree) => ReadAnswer { number: 0, place: 0, tree },
@@ -137,16 +161,7 @@ impl Library for Mirror {
     }
 
     fn list(&self, diagram: &Lent, after: Option<Set>, room: &mut [u8]) -> ListAnswer {
-        let answer = list(diagram, after, room.len());
-        room[..answer.bytes.len()].copy_from_slice(&answer.bytes);
-        ListAnswer {
-            number: answer.number,
-            place: answer.place,
-            written: answer.written as u64,
-            used: answer.bytes.len() as u64,
-            last: answer.last,
-            finished: answer.finished,
-        }
+        lay_out_cuts(&list(diagram, after, room.len()), room)
     }
 
     fn bracket(&self, diagram: &Lent, chances: &[u32], work: [&mut [u32]; 2]) -> BracketAnswer {
@@ -157,6 +172,16 @@ impl Library for Mirror {
             work.into_iter().for_each(|area| area.fill(0));
         }
         BracketAnswer { number: answer.number, place: answer.place, low: answer.low, high: answer.high }
+    }
+
+    fn report(&self, diagram: &Lent, asked: Asked, room: &mut [u8], work: [&mut [u32]; REPORT_AREAS]) -> ReportAnswer {
+        let suffice = self.report_suffices(diagram.table.len(), &work);
+        let Asked { edition, chances, after } = asked;
+        let Report { edition, listing } = report(edition, diagram, chances, suffice, after, room.len());
+        if [0, 14].contains(&listing.number) {
+            work.into_iter().for_each(|area| area.fill(0));
+        }
+        ReportAnswer { edition: edition as u64, listing: lay_out_cuts(&listing, room) }
     }
 
     fn import(&self, text: &[u8], lists: [&mut [u32]; LISTS]) -> ImportAnswer {

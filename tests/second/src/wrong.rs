@@ -8,6 +8,7 @@ use crate::judge::{read, write};
 use crate::lent::Lent;
 use crate::library::*;
 use crate::mirror::{lay_out_analysis, Mirror};
+use crate::report::REPORT_AREAS;
 use crate::robdd::Robdd;
 use crate::sets::Set;
 use crate::sizes::COUNT_AREAS;
@@ -16,6 +17,7 @@ use crate::wrong_added::wrong_added;
 use crate::wrong_changes::{wrong_compare, wrong_difference, wrong_side};
 use crate::wrong_equations::{wrong_export, wrong_import};
 use crate::wrong_lent::{wrong_bracket, wrong_list};
+use crate::wrong_report::{is_of_reports, wrong_report};
 use crate::wrong_sites::*;
 use crate::wrong_sizes::{wrong_folder, wrong_sizes};
 use crate::wrong_twins::{counted, wrong_read, wrong_write};
@@ -24,7 +26,7 @@ use crate::wrong_wide::{wide_list, wide_read, wide_write};
 // One name for each fault, and the list of them all.
 macro_rules! wrongs {
     ($($name:ident),* $(,)?) => {
-        #[derive(Clone, Copy, Debug, PartialEq, Eq)]
+        #[derive(Clone, Copy, Debug, PartialEq, Eq, PartialOrd)]
         pub enum Wrong { $($name),* }
         pub const ALL: &[Wrong] = &[$(Wrong::$name),*];
     };
@@ -150,6 +152,57 @@ wrongs! {
     ThirteenOfLowWords,
     LongCutsOverrun,
     ThreeBytesForEach,
+    // Report.
+    EditionZeroIsOne,
+    EditionsAboveTwoAreTwo,
+    EditionCutToAByte,
+    EditionToldInARefusal,
+    EditionNotTold,
+    EditionTwoToldAlways,
+    TwelveBeforeTwentyThree,
+    TwentyThreeLast,
+    NineBeforeTwelveOfReports,
+    SevenBeforeNine,
+    ThirteenBeforeSeven,
+    ReportNoThirteen,
+    NoChancesUnderOne,
+    ChancesNotJudgedUnderOne,
+    ReportSevenOfAllLent,
+    ReportSevenOfReachedEvents,
+    ReportSevenSaysTheEvent,
+    CertainRefused,
+    ShortReportAreaPasses,
+    ReportAreasByTheCount,
+    ThreeMembersUnderOne,
+    TwoMembersTooMany,
+    EditionOneHasProducts,
+    EditionTwoIsOne,
+    EditionTwoIsAll,
+    TwoInPlaceOfOne,
+    RoundedProductDecides,
+    NearestProductDecides,
+    FloatProductDecides,
+    ProductsWrap,
+    EdgeIsOut,
+    ChancesByTheLowByte,
+    PrunesByTheFewest,
+    PrunesByTheSoundBranch,
+    PrunesByTheFailedBranch,
+    PrunesByNumbersAlone,
+    UnreportableStartsAnew,
+    UnreportableStartRefused,
+    FinishedOfAllCuts,
+    FourteenOfTheNextCut,
+    DoneForFourteen,
+    LastOfAllCuts,
+    ReportLastForgotten,
+    ShortCutsFirst,
+    ZerosBehindTheReport,
+    ReportAreaLeftDirty,
+    ReportAreasStayOnFourteen,
+    ReportAreasClearedOnSeven,
+    ReportAreasClearedOnThirteen,
+    ReportAreasClearedOnTwentyThree,
     // Bracket.
     ZeroToOne,
     LowTwice,
@@ -288,6 +341,10 @@ impl Library for WrongProgram {
         Mirror.smallest_count_areas(capacity)
     }
 
+    fn smallest_report_areas(&self, capacity: usize) -> [usize; REPORT_AREAS] {
+        Mirror.smallest_report_areas(capacity)
+    }
+
     fn read(&self, bytes: &[u8]) -> ReadAnswer {
         let mut answer = Mirror.read(bytes);
         let place = answer.place as usize;
@@ -391,6 +448,13 @@ impl Library for WrongProgram {
 
     fn bracket(&self, diagram: &Lent, chances: &[u32], work: [&mut [u32]; 2]) -> BracketAnswer {
         wrong_bracket(self.0, diagram, chances, work)
+    }
+
+    fn report(&self, diagram: &Lent, asked: Asked, room: &mut [u8], work: [&mut [u32]; REPORT_AREAS]) -> ReportAnswer {
+        match is_of_reports(self.0) {
+            true => wrong_report(self.0, diagram, asked, room, work),
+            false => Mirror.report(diagram, asked, room, work),
+        }
     }
 
     fn import(&self, text: &[u8], lists: [&mut [u32]; LISTS]) -> ImportAnswer {

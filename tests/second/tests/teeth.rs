@@ -3,6 +3,7 @@
 use second::compare::compare_input;
 use second::compare_added::compare_added;
 use second::compare_large::compare_twins;
+use second::compare_reports::compare_reviews;
 use second::compare_sites::compare_sites;
 use second::compare_wide::compare_wide;
 use second::library::Library;
@@ -10,6 +11,7 @@ use second::mirror::Mirror;
 use second::random::Random;
 use second::tally::Tally;
 use second::wrong::{Wrong, WrongProgram, ALL};
+use second::wrong_report::is_of_reports;
 
 fn tally(library: &dyn Library, inputs: u64) -> Tally {
     let mut tally = Tally::default();
@@ -34,6 +36,7 @@ fn the_mirror_passes() {
     assert_eq!(numbers("from sites"), [0, 1, 2, 3, 4, 5, 6, 7, 8, 9, 21, 22]);
     assert_eq!(numbers("analyse"), [0, 1, 2, 3, 4, 5, 6, 7, 8, 9, 10, 11, 21]);
     assert_eq!(numbers("list"), [0, 12, 13, 14]);
+    assert_eq!(numbers("report"), [0, 7, 9, 12, 13, 14, 23]);
     assert_eq!(numbers("bracket"), [0, 7, 9, 12]);
     assert_eq!(numbers("import"), [0, 4, 5, 7, 9, 15, 16, 17, 18]);
     assert_eq!(numbers("export"), [0, 2, 4, 5, 6, 7, 8, 9]);
@@ -53,9 +56,8 @@ fn told_apart(compare: fn(&dyn Library, &mut Random, &mut Tally), wrongs: &[Wron
     };
     let right = tally(&Mirror);
     assert_eq!(right.failed, 0, "{}", right.first_difference.unwrap_or_default());
-    for &wrong in wrongs {
-        assert!(tally(&WrongProgram(wrong)).failed > 0, "{wrong:?} passes");
-    }
+    let passing: Vec<&Wrong> = wrongs.iter().filter(|&&wrong| tally(&WrongProgram(wrong)).failed == 0).collect();
+    assert!(passing.is_empty(), "{passing:?} pass");
 }
 
 /// Every wrong program about twins, but those that write trees in memory.
@@ -178,6 +180,16 @@ fn sites_are_told_apart() {
             Wrong::ExportsThePlaceOfTheOldForm,
         ],
     );
+}
+
+/// Every wrong program about reports, but those that only memory of other lengths or contents tells.
+#[test]
+fn reports_are_told_apart() {
+    let by_seeds = [Wrong::ShortReportAreaPasses, Wrong::ReportAreasByTheCount];
+    let own: Vec<Wrong> = ALL.iter().copied().filter(|&wrong| is_of_reports(wrong)).collect();
+    assert_eq!(own.len(), 50);
+    let seen: Vec<Wrong> = own.into_iter().filter(|wrong| !by_seeds.contains(wrong)).collect();
+    told_apart(compare_reviews, &seen);
 }
 
 #[test]

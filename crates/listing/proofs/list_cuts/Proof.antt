@@ -1,22 +1,23 @@
 -- `listing::list_cuts` meets its contract. Assumes nothing.
 use mathlib.Core.Path.{refl, sym, _∙_}
 use Prim.Native.Nat.{_-_}
-use lib.ListN.{length}
+use mathlib.Core.List.{[]}
+use lib.ListN.{length, take}
 use Rattle.tables.specs.Table.{den}
-use Rattle.walk.specs.Paths.{Carries}
+use Rattle.walk.specs.Paths.{around, Carries}
 use Rattle.walk.specs.After.{toList}
 use Rattle.walk.proofs.Paths.{open-start}
 use Rattle.walk.proofs.Carry.{carries-none}
 use Rattle.listing.proofs.Bytes.{carries-placed}
 use Rattle.listing.proofs.Beside.{Ready, ready-start, ready-next}
-use Rattle.listing.proofs.Calls.{Run, run-start, run-long, run-inside, run-end, short-inside, run-short, run-more, run-fits, run-less}
+use Rattle.listing.proofs.Calls.{Run, next-of, run-start, run-long, run-inside, run-end, short-inside, run-short, run-more, run-fits, run-less}
 use borrow.Author.Needs.{needs}
 use native.Mathlib.Omega.{arith}
 use Rattle.listing.proofs.list_cuts.Statement.{statement}
 use Rattle.listing.proofs.list_cuts.Tie as tie
 
 abbrev Inv-loop : tie.InvT-loop
-Inv-loop nodes n count root begin room₀ base path₀ set₀ ahead₀ line₀ step₀ from₀ used₀ k₀ room path set ahead line step from used k = Run n nodes count (toList n (den nodes root) begin base) base room₀ room path (step .found) (step .depth) from used k × Carries nodes path (step .depth) set × Ready set (step .found) (step .kept) (step .low) (step .high) ahead line
+Inv-loop nodes n count root begin room₀ base path₀ set₀ ahead₀ line₀ step₀ from₀ used₀ k₀ room path set ahead line step from used k = Run n nodes count (toList n (den nodes root) begin base) (around nodes (take (step .depth) path) []) base room₀ room path (step .found) (step .depth) from used k × Carries nodes path (step .depth) set × Ready set (step .found) (step .kept) (step .low) (step .high) ahead line
 
 abbrev μ-loop : tie.MeasureT-loop
 μ-loop nodes n count root begin room₀ base path₀ set₀ ahead₀ line₀ step₀ from₀ used₀ k₀ room path set ahead line step from used k = length room₀ - used
@@ -34,7 +35,7 @@ start-requires : tie.Need-start-requires Inv-loop μ-loop
 start-requires c κs = (open-start _ (c .before .before .before .before .before .before .pre .0) refl, c .before .before .before .before .before .before .pre .1, carries-none _ _ (c .before .before .before .empty .ensures))
 
 loop-holds : tie.Need-loop-holds Inv-loop μ-loop
-loop-holds c = let r = c .before .start .ensures in (run-start (c .before .before .before .before .before .before .before .before .args .t6) (c .before .before .before .before .before .before .before .before .args .room .now) (r .0) (c .before .start .kept .1 .1 .1 .1 .1 .1 .0), r .1, ready-start (r .0 .path) (r .1) (r .2) refl refl (omega arith))
+loop-holds c = let r = c .before .start .ensures in (run-start (c .before .before .before .before .before .before .before .before .args .t6) (c .before .before .before .before .before .before .before .before .args .room .now) (r .0 .path) (next-of (r .0)) (c .before .start .kept .1 .1 .1 .1 .1 .1 .0), r .1, ready-start (r .0 .path) (r .1) (r .2) refl refl (omega arith))
 
 put-next-requires : tie.Need-put-next-requires Inv-loop μ-loop
 put-next-requires c κs = (c .before .before .before .before .before .loop .inv .1 .long, omega (arith, c .before .before .before .before .before .loop .inv .0 .within, run-long (c .before .before .before .before .before .loop .inv .0)), c .before .before .before .before .before .loop .inv .2 .between, c .before .before .before .before .before .loop .inv .2 .counted (c .before .before .before .before .loop-test .taken), c .before .before .before .before .before .loop .inv .2 .spelled (c .before .before .before .before .loop-test .taken), c .before .before .before .before .before .loop .inv .2 .many)
@@ -69,7 +70,7 @@ loop-less c = run-less (c .before .before .before .before .before .before .befor
 loop-again : tie.Need-loop-again Inv-loop μ-loop
 loop-again c =
     let r = c .before .advance .ensures in (
-      run-more (c .before .before .before .before .before .before .before .before .before .before .before .before .before .loop .inv .0) (c .before .before .before .before .before .before .before .before .before .before .before .before .loop-test .taken) (omega arith) (carries-placed (c .before .before .before .before .before .before .before .before .before .before .before .before .before .loop .inv .0 .path) (c .before .before .before .before .before .before .before .before .before .before .before .before .before .loop .inv .1) (c .before .before .before .before .before .before .before .put-next .ensures .0)) (r .0) (c .before .advance .kept .1 .1 .1 .0 ∙ c .before .before .before .before .before .before .before .before .before .before .before .before .before .loop .inv .0 .P-long),
+      run-more (c .before .before .before .before .before .before .before .before .before .before .before .before .before .loop .inv .0) (c .before .before .before .before .before .before .before .before .before .before .before .before .loop-test .taken) (omega arith) (carries-placed (c .before .before .before .before .before .before .before .before .before .before .before .before .before .loop .inv .0 .path) (c .before .before .before .before .before .before .before .before .before .before .before .before .before .loop .inv .1) (c .before .before .before .before .before .before .before .put-next .ensures .0)) (r .0 .path) (next-of (r .0)) (c .before .advance .kept .1 .1 .1 .0 ∙ c .before .before .before .before .before .before .before .before .before .before .before .before .before .loop .inv .0 .P-long),
       r .1,
       ready-next (r .0 .path) (r .1) (c .before .before .before .before .before .before .before .before .before .before .before .before .before .loop .inv .2 .between) (c .before .before .before .before .before .before .before .put-next .ensures .1) (c .before .before .before .before .before .before .before .put-next .ensures .2 (omega arith)) (r .2) (c .before .before .before .before .before .before .before .before .before .before .before .before .before .loop .inv .1 .long),
     )

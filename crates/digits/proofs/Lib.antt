@@ -1,0 +1,3 @@
+-- The laws on digits.
+pub mod Value
+pub mod Steps

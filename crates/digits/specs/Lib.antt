@@ -1,0 +1,2 @@
+-- What some digits stand for.
+pub mod Digits
