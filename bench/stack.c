@@ -29,6 +29,7 @@ static struct matticklet_reading reading;
 static struct matticklet_writing writing;
 static struct matticklet_move moved, back;
 static struct matticklet_analysis analysis;
+static struct matticklet_settings settings;
 static struct matticklet_listing listing;
 static struct matticklet_ends ends;
 static struct matticklet_report reported;
@@ -70,6 +71,14 @@ static void analyse(void)
     matticklet_analyse(tree, tree_length, nodes, 3 * CAPACITY, cuts, 3 * CAPACITY, gates, MATTICKLET_GATES, added, MATTICKLET_GATES, memo, memo_length,
                        heads, AREA, next, AREA, marks, AREA, own, AREA, &analysis);
 }
+/* A store with a record for the last event, which is free again: the deepest diagrams stay. */
+static const uint8_t store[2 * MATTICKLET_SETTING_BYTES] = { 0x31, 1, 0, 0xFF, 3, 1, 0x31, 2, 0, 0xFF, 3, 0 };
+static void analyse_season(void)
+{
+    matticklet_analyse_season(tree, tree_length, store, sizeof store, 2, nodes, 3 * CAPACITY, cuts, 3 * CAPACITY, gates, MATTICKLET_GATES, added,
+                              MATTICKLET_GATES, memo, memo_length, heads, AREA, next, AREA, marks, AREA, own, AREA, &analysis);
+}
+static void chances_under(void) { matticklet_chances_under(store, sizeof store, 2, chances, reading.events, &settings); }
 static void list(void)
 {
     static const uint64_t none[MATTICKLET_SET_WORDS];
@@ -146,6 +155,8 @@ int main(void)
         bad |= say("to sites", to_sites, base, &moved.number);
         bad |= say("from sites", from_sites, base, &back.number);
         bad |= say("analyse", analyse, base, &analysis.number);
+        bad |= say("analyse season", analyse_season, base, &analysis.number);
+        bad |= say("chances under", chances_under, base, &settings.number);
         bad |= say("list", list, base, &listing.number);
         bad |= say("compare", compare, base, &comparison.number);
         bad |= say("bracket", bracket, base, &ends.number);

@@ -2,6 +2,7 @@
 # Makes the trees of this directory from their typed equations, and what the program must write for each. The metropolis is typed by metropolis.sh.
 # The .names files say which event and gate got which number; corridor.cuts has the cuts by name, as c/equations prints them, and corridor.sizes,
 # metropolis.sizes and folder.sizes how many there are of each size, in these two and in three trees together, as c/sizes prints them.
+# corridor.store has the settings of corridor.settings, and corridor.seasons what c/season prints of the corridor under its editions.
 # corridor_sites is the corridor with the sites of corridor.sites. corridor.reports has what c/report prints under editions 1 and 2, and 3, which is refused.
 set -e
 cd "$(dirname "$0")"
@@ -19,5 +20,8 @@ $second program corridor_sites.tree > corridor_sites.out
 awk -f by_name.awk corridor.names corridor.out > corridor.cuts
 $second sizes corridor.tree > corridor.sizes
 for edition in 1 2 3; do $second report corridor.tree $edition; done > corridor.reports
+# shellcheck disable=SC2046 # a word for each setting
+$second store $(awk 'FNR == NR { number[$3] = $2; next } { print $1 ":" number[$2] ":" $3 }' corridor.names corridor.settings) > corridor.store
+for edition in 1 2 3 4; do $second season corridor.tree corridor.store $edition; done > corridor.seasons
 $second sizes metropolis.tree > metropolis.sizes
 $second sizes case1.tree corridor.tree european1.tree > folder.sizes

@@ -36,7 +36,7 @@ enum {
     MATTICKLET_NODES_FULL = 10,  /* its place is the number of the gate being built */
     MATTICKLET_CUTS_FULL = 11,
     MATTICKLET_NO_DIAGRAM = 12,
-    MATTICKLET_BEYOND = 13,      /* a set names an event beyond the number of events */
+    MATTICKLET_BEYOND = 13,      /* a set, or a setting, names an event beyond the number of events */
     MATTICKLET_ROOM = 14,        /* room too small for the next cut */
     MATTICKLET_LINE = 15,        /* a line outside the grammar, or a chance that may not be given */
     MATTICKLET_LEFT_TWICE = 16,  /* a left name twice */
@@ -46,7 +46,8 @@ enum {
     MATTICKLET_BAD_LISTING = 20, /* a listing out of order, or with a bad record */
     MATTICKLET_NARROW = 21,      /* an input of kind 08 with a number below 256 */
     MATTICKLET_SITED = 22,       /* a site that isn't 0, where the form to be written has none */
-    MATTICKLET_EDITION = 23      /* an edition of the review rule that there is not */
+    MATTICKLET_EDITION = 23,     /* an edition of the review rule that there is not */
+    MATTICKLET_STORE = 24        /* a store of settings that ends inside a record, has another kind or state, or lets editions fall */
 };
 
 /* Limits of a tree and of a table. */
@@ -132,11 +133,11 @@ void matticklet_from_sites(const uint8_t *bytes, size_t bytes_length, uint8_t *r
  * 2 on, stands at 3 * (i - 2). A table's capacity is its length / 3. */
 
 struct matticklet_analysis {
-    uint64_t number;    /* 0 to 11, or 21 */
-    uint64_t place;     /* of 1 to 8 and 21; of 10 the number of the gate being built; else 0 */
+    uint64_t number;    /* 0 to 11, or 21; in a season 13 or 24 too */
+    uint64_t place;     /* of 1 to 8 and 21; of 13 and 24, in the store; of 10 the number of the gate being built; else 0 */
     uint64_t nodes;     /* nodes stored; 0 in a refusal, as are those below */
     uint64_t cut_nodes;
-    uint64_t root;      /* the last gate's node */
+    uint64_t root;      /* the last gate's node; in a season it may be a leaf */
     uint64_t cut_root;  /* the node of the minimal cuts */
 };
 
@@ -162,6 +163,47 @@ void matticklet_analyse(const uint8_t *bytes, size_t bytes_length, uint32_t *nod
                         uint32_t *heads, size_t heads_length, uint32_t *next, size_t next_length,
                         uint32_t *marks, size_t marks_length, uint32_t *own, size_t own_length,
                         struct matticklet_analysis *answer);
+
+/* Seasonal settings: which events are off, or held up, for certain. A store is a record after the other, low bytes first:
+ *   31 d d e e s   from edition d on, event e is in state s: 0 free, 1 failed, 2 sound
+ * Editions never fall along a store. Under the edition that is asked for, the last record for an event at or before that edition decides, and without one
+ * the event is free. A store without a record is good: every event is free.
+ * A store is judged whole, also what lies above the asked edition. Its first faulty record decides, and the place is that record's offset in the store: 24
+ * for one inside of which the store ends, of another kind or state, or of an edition below that of the record before; otherwise 13 for an event that the
+ * tree does not have. The answer of an edition stays as it is when records of editions above it are added, wherever they leave the store good. */
+
+enum {
+    MATTICKLET_SETTING = 0x31,
+    MATTICKLET_SETTING_BYTES = 6,
+    MATTICKLET_FREE = 0,
+    MATTICKLET_FAILED = 1,
+    MATTICKLET_SOUND = 2
+};
+
+/* Analyses a tree as matticklet_analyse does, under the settings of an edition: 1 to 8 or 21, then 24 and 13 of the store, then 9, then 10, then 11. A forced
+ * event is a constant before anything is built, and has no node. All else is as without settings, of the tree with these constants: the steps are the same
+ * ones, a join with a constant among them, and an event that is first used behind a constant still counts. `nodes`, `cut_nodes`, the nodes that each gate
+ * added, and the place of 10 are of the forced functions. Gates and the root may be constant, and are then the leaf 0 or 1: a root that can't fail has cut
+ * root 0 and lists no cut, one that always fails has cut root 1 and lists the empty set alone, `22`. With every event forced, tables of length 0 do.
+ * 24 and 13 change nothing. With an empty store the answer is that of matticklet_analyse, and what is lent is left as that call may leave it. */
+void matticklet_analyse_season(const uint8_t *bytes, size_t bytes_length, const uint8_t *store, size_t store_length,
+                               uint16_t edition, uint32_t *nodes, size_t nodes_length, uint32_t *cuts, size_t cuts_length,
+                               uint32_t *gates, size_t gates_length, uint32_t *added, size_t added_length,
+                               uint32_t *memo, size_t memo_length, uint32_t *heads, size_t heads_length,
+                               uint32_t *next, size_t next_length, uint32_t *marks, size_t marks_length,
+                               uint32_t *own, size_t own_length, struct matticklet_analysis *answer);
+
+struct matticklet_settings {
+    uint64_t number; /* 0, 9, 13 or 24 */
+    uint64_t place;  /* of 13 and 24, in the store; else 0 */
+};
+
+/* Makes the chances of all events of a tree, as many as are lent, those under the settings of an edition: MATTICKLET_BILLION where an event is forced to be
+ * failed, 0 where it is forced to be sound, and as they were where it is free; no chance is judged. 24 and 13 of the store, for a tree of that many events,
+ * then 9 for more than MATTICKLET_EVENTS. A refusal changes nothing. With these chances matticklet_bracket encloses the chance of the root in that season;
+ * where the root is constant both ends are exact. */
+void matticklet_chances_under(const uint8_t *store, size_t store_length, uint16_t edition, uint32_t *chances,
+                              size_t chances_length, struct matticklet_settings *answer);
 
 struct matticklet_listing {
     uint64_t number;   /* 0, 12, 13 or 14 */

@@ -16,7 +16,7 @@
 enum { GUARD = 72, AREAS = 24 }; /* no area is aligned beyond its need */
 enum { GUARDS_STAND = 1, CONST_AREAS_STAND = 2 };
 enum { READ = 1, WRITE = 2, ANALYSE = 3, LIST = 4, BRACKET = 5, IMPORT = 6, EXPORT = 7, SIZES = 8, FOLDER = 9 };
-enum { SIDE = 10, FIRST_DIFFERENCE = 11, COMPARE = 12, TO_SITES = 13, FROM_SITES = 14, REPORT = 15 };
+enum { SIDE = 10, FIRST_DIFFERENCE = 11, COMPARE = 12, TO_SITES = 13, FROM_SITES = 14, REPORT = 15, ANALYSE_SEASON = 16, CHANCES_UNDER = 17 };
 enum { LISTS = 11, RING = 9 }; /* of an import, in the header's order */
 
 struct area {
@@ -206,6 +206,38 @@ static void analyse_call(void)
     reply(answer, written, 9);
 }
 
+static void analyse_season_call(void)
+{
+    struct area *bytes = area(1), *store = area(1);
+    uint16_t edition = (uint16_t)number();
+    struct area *nodes = area(4), *cuts = area(4), *gates = area(4), *added = area(4), *memo = area(4);
+    struct area *heads = area(4), *next = area(4), *marks = area(4), *own = area(4);
+    struct area *answer = answer_area(6);
+    struct matticklet_analysis *a = contents(answer);
+    matticklet_analyse_season(contents(bytes), bytes->length, contents(store), store->length, edition, contents(nodes), nodes->length,
+                              contents(cuts), cuts->length, contents(gates), gates->length, contents(added), added->length,
+                              contents(memo), memo->length, contents(heads), heads->length, contents(next), next->length,
+                              contents(marks), marks->length, contents(own), own->length, a);
+    if (spoiled == ANALYSE_SEASON && a->number == MATTICKLET_STORE && a->place > 0)
+        a->place--; /* not where the record begins */
+    struct area *written[] = { nodes, cuts, gates, added, memo, heads, next, marks, own };
+    reply(answer, written, 9);
+}
+
+static void chances_under_call(void)
+{
+    struct area *store = area(1);
+    uint16_t edition = (uint16_t)number();
+    struct area *chances = area(4);
+    struct area *answer = answer_area(2);
+    struct matticklet_settings *a = contents(answer);
+    matticklet_chances_under(contents(store), store->length, edition, contents(chances), chances->length, a);
+    if (spoiled == CHANCES_UNDER && a->number == MATTICKLET_BEYOND && chances->length > 0)
+        ((uint32_t *)contents(chances))[0] ^= 1; /* a refusal that writes */
+    struct area *written[] = { chances };
+    reply(answer, written, 1);
+}
+
 static void list_call(void)
 {
     struct area *cuts = area(4);
@@ -381,6 +413,8 @@ int main(int words, char **word)
         case TO_SITES: to_sites_call(); break;
         case FROM_SITES: from_sites_call(); break;
         case REPORT: report_call(); break;
+        case ANALYSE_SEASON: analyse_season_call(); break;
+        case CHANCES_UNDER: chances_under_call(); break;
         default: fail("no such call");
         }
         if (fflush(stdout) != 0)

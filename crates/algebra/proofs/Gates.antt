@@ -12,7 +12,7 @@ use lib.Dec.{leb, leb·zero, leb·suc-zero, leb·suc-suc}
 use Rattle.paper.specs.Lists.{In, keep, flat}
 use Rattle.paper.specs.Sets.{Set, none}
 use Rattle.paper.specs.Functions.{Fun, table, Monotone}
-use Rattle.paper.specs.Trees.{Input, event, gate, Gate, andG, orG, leastG, distinctInputs, eventF, constF, countFails, InputsBelow, GateBelow, TreeBelow, everyFails, someFails}
+use Rattle.paper.specs.Trees.{Input, event, gate, forced, Gate, andG, orG, leastG, distinctInputs, eventF, constF, countFails, InputsBelow, GateBelow, TreeBelow, everyFails, someFails}
 use Rattle.paper.specs.Steps.{joinFrom, joinAll, joinSteps, joinAllSteps, least, leastSteps, input, value, eventSteps, steps, valuesFrom, stepsFrom, join, joinF, stepFuns}
 use Rattle.paper.specs.Nodes.{needed, nodesNeeded}
 use Rattle.paper.specs.Diagrams.{Diagram, leaf, eval}
@@ -125,6 +125,7 @@ module _ {X Y : Type 0} (ev : ℕ → X) (ct : Bool → X) (jn : Bool → X → 
   r-inputs gs hs p [] b = tt
   r-inputs gs hs p (event e ∷ is) b = (rev e (b .0), r-inputs gs hs p is (b .1))
   r-inputs gs hs p (gate i ∷ is) b = (pairs-at gs hs i (ct false) (ct′ false) p (rct false), r-inputs gs hs p is (b .1))
+  r-inputs gs hs p (forced e c ∷ is) b = (rct c, r-inputs gs hs p is (b .1))
 
   r-value : (gs : List X) (hs : List Y) → Pairs R gs hs → (g : Gate) → GateBelow n g → R (value ev ct jn gs g) (value ev′ ct′ jn′ hs g)
   r-value gs hs p (andG is) b = r-joinAll false (map (input ev ct jn gs) is) (map (input ev′ ct′ jn′ hs) is) (r-inputs gs hs p is b)
@@ -136,6 +137,7 @@ module _ {X Y : Type 0} (ev : ℕ → X) (ct : Bool → X) (jn : Bool → X → 
   r-events [] b = tt
   r-events (event e ∷ is) b = (rev e (b .0), r-events is (b .1))
   r-events (gate i ∷ is) b = r-events is (b .1)
+  r-events (forced e c ∷ is) b = (rct c, r-events is (b .1))
 
   r-after : (is : List Input) → InputsBelow n is → (xs : List X) (ys : List Y) → Pairs R xs ys → Pairs R (eventSteps ev ct jn is ++ xs) (eventSteps ev′ ct′ jn′ is ++ ys)
   r-after is b xs ys p = pairs-append (eventSteps ev ct jn is) xs (eventSteps ev′ ct′ jn′ is) ys (r-events is b) p

@@ -7,7 +7,7 @@ use Prim.Native.Nat.{ℕ}
 use lib.Dec.{leb}
 use Rattle.paper.specs.Sets.{Set}
 use Rattle.paper.specs.Functions.{Fun}
-use Rattle.paper.specs.Trees.{Input, event, gate, Gate, andG, orG, leastG, distinctInputs, eventF, constF, everyFails, someFails, countFails, inputFun, gateFun, gateFunsFrom, gateFuns, TreeBelow}
+use Rattle.paper.specs.Trees.{Input, event, gate, forced, Gate, andG, orG, leastG, distinctInputs, eventF, constF, everyFails, someFails, countFails, inputFun, gateFun, gateFunsFrom, gateFuns, TreeBelow}
 use Rattle.paper.specs.Steps.{joinAll, input, value, valuesFrom, joinF}
 use Rattle.algebra.specs.Operations.{gateDiagrams}
 use Rattle.algebra.proofs.Gates.{Pairs, Shows, all-law, some-law, least-law, values-show}
@@ -16,6 +16,7 @@ inputs-rule : (gs : List Fun) (is : List Input) → map (input eventF constF joi
 inputs-rule gs [] = refl
 inputs-rule gs (event e ∷ is) = ap (eventF e ∷_) (inputs-rule gs is)
 inputs-rule gs (gate i ∷ is) = ap (inputFun gs (gate i) ∷_) (inputs-rule gs is)
+inputs-rule gs (forced e b ∷ is) = ap (constF b ∷_) (inputs-rule gs is)
 
 all-rule : (Fs : List Fun) (v : Set) → joinAll eventF constF joinF false Fs v ≡ everyFails Fs v
 all-rule [] v = refl

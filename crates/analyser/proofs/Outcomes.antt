@@ -17,8 +17,8 @@ use Rattle.trees.proofs.Promises.{Good, done-is-good}
 use Rattle.memory.specs.Memory.{Memory, Lengths}
 use Rattle.memory.specs.Outcome.{Refused, at}
 use Rattle.analysis.specs.Completing.{CutsFilled}
-use Rattle.analysis.specs.Filling.{WasRead, Filled}
-use Rattle.analyser.specs.Analysed.{Tried, Analysed}
+use Rattle.analysis.specs.Filling.{WasRead, Filled, Tried}
+use Rattle.analyser.specs.Analysed.{Analysed}
 use Rattle.memory.specs.declared.Analysis.{Analysis}
 use Rattle.analysis.proofs.Reading.{read-is, read-count}
 

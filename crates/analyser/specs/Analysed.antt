@@ -8,12 +8,10 @@ use Rattle.paper.specs.Limits.{limits}
 use Rattle.paper.specs.Answers.{NodesFull, FilledAt, CutsFull}
 use Rattle.records.specs.Judge.{Book, accept, refuse, outcome}
 use Rattle.rules.specs.Answers.{verdict}
-use Rattle.records.specs.Trees.{treeOf, treeIn}
+use Rattle.records.specs.Trees.{treeOf}
 use Rattle.rules.specs.declared.Answer.{Answer}
-use Rattle.records.specs.declared.Tree.{Tree}
 use Rattle.memory.specs.Memory.{Memory, Lengths, AllZero, capacity}
 use Rattle.memory.specs.Outcome.{Refused, at, Done}
-use Rattle.analysis.specs.Filling.{Filled}
 use Rattle.memory.specs.declared.Analysis.{Analysis}
 
 -- the bytes, what was lent before and after, and the answer: the first rule that is broken, or done
@@ -23,8 +21,3 @@ pub data Analysed (bytes : List ℕ) (m m′ : Memory) (a : Analysis) : Type 0 w
   nodes-full : (b : Book) (g : ℕ) → outcome limits bytes ≡ accept b → Lengths (length (treeOf b .gates)) m → FilledAt (treeOf b) (capacity (m .nodes)) g → Refused (at 10 g) a → AllZero m m′ → Analysed bytes m m′ a
   cuts-full : (b : Book) → outcome limits bytes ≡ accept b → Lengths (length (treeOf b .gates)) m → (NodesFull (treeOf b) (capacity (m .nodes)) → ⊥) → CutsFull (treeOf b) (capacity (m .cuts)) → Refused (at 11 0) a → AllZero m m′ → Analysed bytes m m′ a
   done : (b : Book) → outcome limits bytes ≡ accept b → Lengths (length (treeOf b .gates)) m → (NodesFull (treeOf b) (capacity (m .nodes)) → ⊥) → (CutsFull (treeOf b) (capacity (m .cuts)) → ⊥) → Done (treeOf b) m m′ a → Analysed bytes m m′ a
-
--- the tree was read: 9, or both tables
-pub data Tried (tree : Tree) (m m′ : Memory) (a : Analysis) : Type 0 where
-  bad-length : (Lengths (tree .«gate_count») m → ⊥) → Refused (at 9 0) a → m′ ≡ m → Tried tree m m′ a
-  filled : Lengths (tree .«gate_count») m → Filled (treeIn tree) m m′ a → Tried tree m m′ a

@@ -1,9 +1,6 @@
 // The product: trees read and written, analysed in lent tables, cuts listed, chances bracketed. Each public call answers for any arguments.
-mod lengths; // number 9
-
 use bracket::Ends;
 use judging::Written;
-use lengths::lengths_ok;
 use listing::Listed;
 use memory::Analysis;
 use records::Reading;
@@ -17,8 +14,7 @@ ghost use Rattle.writing.specs.Writes.{wrote, writeOf};
 ghost use Rattle.listing.specs.Answers.{Answered};
 ghost use Rattle.bracket.specs.Bracketed.{Bracketed};
 ghost use Rattle.memory.specs.Memory.{memory};
-ghost use Rattle.analysis.specs.Filling.{WasRead};
-ghost use Rattle.analyser.specs.Analysed.{Tried, Analysed};
+ghost use Rattle.analyser.specs.Analysed.{Analysed};
 ghost use Rattle.analyser.specs.Verdicts.{judgeWriting};
 
 // Reads a tree from its bytes.
@@ -67,51 +63,6 @@ pub fn bracket(
     bracket::bracket(nodes, events, count, root, chances, lows, highs)
 }
 
-// The analysis of a tree that was read: 9, 10, 11, or done.
-fn analyse_tree(
-    tree: Tree,
-    nodes: &mut [u32],
-    cuts: &mut [u32],
-    gates: &mut [u32],
-    added: &mut [u32],
-    memo: &mut [u32],
-    heads: &mut [u32],
-    next: &mut [u32],
-    marks: &mut [u32],
-    own: &mut [u32],
-) -> Analysis
-    requires { ⌜ WasRead tree ⌝ }
-    ensures { λ r. ⌜ Tried tree (memory (now (nodes .entry)) (now (cuts .entry)) (now (gates .entry)) (now (added .entry)) (now (memo .entry)) (now (heads .entry)) (now (next .entry)) (now (marks .entry)) (now (own .entry))) (memory (now (nodes .exit)) (now (cuts .exit)) (now (gates .exit)) (now (added .exit)) (now (memo .exit)) (now (heads .exit)) (now (next .exit)) (now (marks .exit)) (now (own .exit))) r ⌝ }
-{
-    let count = tree.gate_count;
-    if !lengths_ok(
-        nodes,
-        cuts,
-        gates,
-        added,
-        memo,
-        heads,
-        next,
-        marks,
-        own,
-        count,
-    ) {
-        return memory::refused(9, 0);
-    }
-    analysis::fill(
-        tree,
-        nodes,
-        cuts,
-        gates,
-        added,
-        memo,
-        heads,
-        next,
-        marks,
-        own,
-    )
-}
-
 // Analyses a tree: its diagram in the node table, each gate's node in the gate list and how many nodes it adds in the list behind it, its cuts in
 // the cut table. What the lent memory holds at entry does not matter.
 pub fn analyse(
@@ -135,7 +86,7 @@ pub fn analyse(
         return memory::refused(number, rules::place(a));
     }
     let tree = r.tree;
-    analyse_tree(
+    analysis::analyse_tree(
         tree,
         nodes,
         cuts,

@@ -3,3 +3,4 @@ pub mod Holding
 pub mod Tables
 pub mod Reading
 pub mod Filling
+pub mod Flags

@@ -22,7 +22,7 @@ use Rattle.build.specs.Finishing.{Areas, Whole, TooMany}
 use Rattle.memory.specs.Memory.{Memory, Lengths}
 use Rattle.memory.proofs.Before.{SameLengths, lengths-from}
 use Rattle.analysis.specs.Completing.{Sound}
-use Rattle.analysis.specs.Filling.{WasRead}
+use Rattle.analysis.specs.Filling.{WasRead, Buildable}
 
 read-gates : (b : Book) → Lawful limits b → treeIn (memory b) .gates ≡ treeOf b .gates
 unfolding treeIn memory
@@ -53,20 +53,23 @@ read-sound b l =
 -- ---- the arrays of such a tree
 
 module _ {t : Tree} (w : WasRead t) where
-  pub read-arrays : Arrays t
+  read-arrays : Arrays t
   read-arrays = subst Arrays (sym (w .is)) (arrays-memory (w .book) (w .lawful))
 
   pub read-is : treeIn t ≡ treeOf (w .book)
   read-is = ap treeIn (w .is) ∙ read-tree (w .book) (w .lawful)
 
-  pub read-is-sound : Sound (treeIn t)
+  read-is-sound : Sound (treeIn t)
   read-is-sound = subst Sound (sym read-is) (read-sound (w .book) (w .lawful))
 
   pub read-count : length (treeIn t .gates) ≡ t .«gate_count»
   read-count = ap (λ x. length (x .gates)) read-is ∙ tree-gates (w .book) ∙ book-count (w .book) ∙ ap (λ (x : Tree). x .«gate_count») (sym (w .is))
 
-  pub read-lengths : {m k : Memory} → SameLengths m k → Lengths (t .«gate_count») m → Lengths (length (treeIn t .gates)) k
-  read-lengths {m} {k} s l = subst (λ n. Lengths n k) (sym read-count) (lengths-from s l)
+  pub read-buildable : Buildable t
+  read-buildable = record { arrays = read-arrays; sound = read-is-sound; count = read-count }
+
+pub build-lengths : {t : Tree} → Buildable t → {m k : Memory} → SameLengths m k → Lengths (t .«gate_count») m → Lengths (length (treeIn t .gates)) k
+build-lengths w {m} {k} s l = subst (λ n. Lengths n k) (sym (w .count)) (lengths-from s l)
 
 pub build-areas : {n : ℕ} {m : Memory} → Lengths n m → Areas (m .nodes) (m .heads) (m .next)
 build-areas l = record { small = l .node-table .short; linked = omega (arith, l .areas .next, l .node-table .threes); chains = omega (arith, l .areas .heads) }

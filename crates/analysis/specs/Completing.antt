@@ -11,7 +11,7 @@ use Rattle.memory.specs.Memory.{Memory, capacity, AllZero, Lengths}
 use Rattle.memory.specs.Outcome.{Refused, at, Done}
 use Rattle.memory.specs.declared.Analysis.{Analysis}
 
--- what a tree that was read keeps
+-- what a tree that was read keeps, with some events forced or none
 pub record Sound (t : paper.Tree) : Type 0 where
   pub some-event : 1 ≤ events t
   pub few-events : events t ≤ limits .events

@@ -1,12 +1,15 @@
-// The two tables of a tree that was read, in memory whose lengths are right: 10, 11, or done.
+// The analysis of a tree in memory that can be built: 9 for wrong lengths, then its two tables: 10, 11, or done.
+mod lengths; // number 9
+
 use build::Finish;
+use lengths::lengths_ok;
 use memory::Analysis;
 use records::Tree;
 use store::Built;
 ghost use Rattle.memory.specs.Memory.{memory, Lengths};
 ghost use Rattle.analysis.specs.Completing.{Grounded, FillsCuts};
 ghost use Rattle.records.specs.Trees.{treeIn};
-ghost use Rattle.analysis.specs.Filling.{WasRead, Filled};
+ghost use Rattle.analysis.specs.Filling.{Buildable, Filled, Tried};
 
 // The cut table over a finished node table. Where the cuts do not fit all becomes zero; otherwise the memo and the work areas do.
 fn fill_cuts(
@@ -45,7 +48,7 @@ fn fill_cuts(
 }
 
 // The node table first, then the cut table over it.
-pub fn fill(
+fn fill(
     tree: Tree,
     nodes: &mut [u32],
     cuts: &mut [u32],
@@ -57,7 +60,7 @@ pub fn fill(
     marks: &mut [u32],
     own: &mut [u32],
 ) -> Analysis
-    requires { ⌜ WasRead tree ⌝ }
+    requires { ⌜ Buildable tree ⌝ }
     requires { ⌜ Lengths (tree .«gate_count») (memory (now nodes) (now cuts) (now gates) (now added) (now memo) (now heads) (now next) (now marks) (now own)) ⌝ }
     ensures { λ r. ⌜ Filled (treeIn tree) (memory (now (nodes .entry)) (now (cuts .entry)) (now (gates .entry)) (now (added .entry)) (now (memo .entry)) (now (heads .entry)) (now (next .entry)) (now (marks .entry)) (now (own .entry))) (memory (now (nodes .exit)) (now (cuts .exit)) (now (gates .exit)) (now (added .exit)) (now (memo .exit)) (now (heads .exit)) (now (next .exit)) (now (marks .exit)) (now (own .exit))) r ⌝ }
 {
@@ -82,4 +85,49 @@ pub fn fill(
             )
         }
     }
+}
+
+// The analysis of a tree that can be built: 9, 10, 11, or done.
+pub fn analyse_tree(
+    tree: Tree,
+    nodes: &mut [u32],
+    cuts: &mut [u32],
+    gates: &mut [u32],
+    added: &mut [u32],
+    memo: &mut [u32],
+    heads: &mut [u32],
+    next: &mut [u32],
+    marks: &mut [u32],
+    own: &mut [u32],
+) -> Analysis
+    requires { ⌜ Buildable tree ⌝ }
+    ensures { λ r. ⌜ Tried tree (memory (now (nodes .entry)) (now (cuts .entry)) (now (gates .entry)) (now (added .entry)) (now (memo .entry)) (now (heads .entry)) (now (next .entry)) (now (marks .entry)) (now (own .entry))) (memory (now (nodes .exit)) (now (cuts .exit)) (now (gates .exit)) (now (added .exit)) (now (memo .exit)) (now (heads .exit)) (now (next .exit)) (now (marks .exit)) (now (own .exit))) r ⌝ }
+{
+    let count = tree.gate_count;
+    if !lengths_ok(
+        nodes,
+        cuts,
+        gates,
+        added,
+        memo,
+        heads,
+        next,
+        marks,
+        own,
+        count,
+    ) {
+        return memory::refused(9, 0);
+    }
+    fill(
+        tree,
+        nodes,
+        cuts,
+        gates,
+        added,
+        memo,
+        heads,
+        next,
+        marks,
+        own,
+    )
 }

@@ -84,11 +84,11 @@ module _ {kinds leasts sizes inputs : List ℕ} (p : Plan kinds leasts sizes inp
   gate-own gates l = let long = own-long in record {
     some = let a = p .some g h in omega arith;
     few = let a = p .few g h in omega arith;
-    earlier = λ j m.
+    earlier = λ j m low.
         let b : j < getD sizes g 0 = omega arith in
-        let c = p .earlier g j h b in
         let q : getD own j 0 ≡ getD inputs (startOf sizes g + j) 0 =
         getD-take (at + getD sizes g 0 - at) (drop at inputs) j 0 (let s = short in omega arith) ∙ getD-drop at inputs j 0 ∙ ap (λ i. getD inputs (i + j) 0) e in
+        let c = p .earlier g j h b (omega arith) in
         omega arith;
   }
 

@@ -30,7 +30,7 @@ plan-pad b l = record {
   some = λ g h. l .sizes g h .0;
   few = λ g h. l .sizes g h .1;
   least = λ g h. subst (λ k. k ≤ getD (b .sizes) g 0) (sym (pad-at (limits .gates) (b .leasts) g)) (go g h (ℕ-discrete (getD (b .kinds) g 0) 4));
-  earlier = λ g j h m. subst (λ i. i < gatesFrom + g) (sym (pad-at (limits .inAll) (b .inputs) (startOf (b .sizes) g + j))) (l .inputs g h j m .below);
+  earlier = λ g j h m _. subst (λ i. i < gatesFrom + g) (sym (pad-at (limits .inAll) (b .inputs) (startOf (b .sizes) g + j))) (l .inputs g h j m .below);
 }
   where
     go : (g : ℕ) → g < length (b .sizes) → Dec (getD (b .kinds) g 0 ≡ 4) → getD (b .leasts) g 0 ≤ getD (b .sizes) g 0

@@ -13,7 +13,7 @@ use borrow.Author.Tests.{lt-ltb, le-ltb, eqb-true, eqb-false}
 use Rattle.paper.specs.Limits.{limits, billion}
 use Rattle.paper.specs.Lists.{In, sum}
 use Rattle.paper.specs.Trees.{Input, event, gate, Gate, distinctInputs, TreeBelow}
-use Rattle.paper.specs.Flat.{gatesFrom, inputOf, gateOf, gatesOf}
+use Rattle.paper.specs.Flat.{gatesFrom, failedFrom, inputOf, gateOf, gatesOf}
 use Rattle.paper.specs.Importing.{inputsTo}
 use Rattle.twins.specs.Distinct.{distinctCodes}
 use Rattle.twins.proofs.Inputs.{distinct-inputs}
@@ -137,7 +137,7 @@ module _ (b : Book) (v : Lawful limits b) where
           gatesUsed = λ g h.
               let low : g + 1 < length (b .sizes) = omega arith in
               let back : gatesFrom + g - gatesFrom ≡ g = omega arith in
-              let is : inputOf (gatesFrom + g) ≡ gate g = rw (le-ltb (gatesFrom + g) gatesFrom (omega arith), back) refl in
+              let is : inputOf (gatesFrom + g) ≡ gate g = rw (le-ltb (gatesFrom + g) gatesFrom (omega arith), lt-ltb (gatesFrom + g) failedFrom (omega (arith, v .fewGates)), back) refl in
               subst (λ i. In i (allInputs (treeOf b .gates))) is (used (gatesFrom + g) (v .gatesUsed g low));
         };
       })

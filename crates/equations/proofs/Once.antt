@@ -15,7 +15,7 @@ use Rattle.paper.specs.Meaning.{treeSaid}
 use Rattle.paper.specs.Importing.{Rooted, broken, Says, a-ring, all-right}
 use Rattle.records.specs.Memory.{pad, memory}
 use Rattle.records.specs.Flattened.{bookOf, LawfulTree}
-use Rattle.records.proofs.Breaks.{broken-events, events-few}
+use Rattle.records.proofs.Breaks.{broken-events, broken-gates, events-few, gates-few}
 use Rattle.records.proofs.Flattened.{tree-again, tree-lawful}
 use Rattle.meaning.proofs.Once.{one-root, says-once}
 use Rattle.meaning.proofs.Chances.{chance-said}
@@ -188,6 +188,9 @@ imports-ring text l l′ a p n = go p
 few : (t : Tree) → broken limits t ≡ 0 → events t ≤ gatesFrom
 few t z = omega (arith, events-few limits (t .chances) 0 (broken-events limits t z) (omega arith))
 
+few-gates : (t : Tree) → broken limits t ≡ 0 → length (t .gates) ≤ limits .gates
+few-gates t z = omega (arith, gates-few limits (t .gates) 0 0 (broken-gates limits t z) (omega arith))
+
 pub imports-means : ImportsMeans
 imports-means text l l′ a p n = go p
   where
@@ -201,7 +204,7 @@ imports-means text l l′ a p n = go p
           rooted = r;
           is = h .tells;
           lawful = tree-lawful (treeSaid (linesOf text) root) t;
-          same = tree-again (treeSaid (linesOf text) root) (few (treeSaid (linesOf text) root) z) (t .below);
+          same = tree-again (treeSaid (linesOf text) root) (few (treeSaid (linesOf text) root) z) (few-gates (treeSaid (linesOf text) root) z) (t .below) (t .lower);
           fails = λ v. text-means text root r v (length (dictIn (linesOf text))) (omega arith);
           chances = chance-said (linesOf text) root;
         }

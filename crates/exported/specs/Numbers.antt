@@ -10,6 +10,7 @@ use Rattle.listing.specs.declared.Listed.{Listed}
 use Rattle.report.specs.declared.Reported.{Reported}
 use Rattle.bracket.specs.declared.Ends.{Ends}
 use Rattle.memory.specs.declared.Analysis.{Analysis}
+use Rattle.settings.specs.declared.Judgement.{Judgement}
 use Rattle.equations.specs.declared.Imported.{Imported}
 use Rattle.sizes.specs.declared.Tally.{Tally}
 use Rattle.folder.specs.declared.Gathered.{Gathered}
@@ -22,6 +23,9 @@ ofWriting w = verdict (w .answer) .number ∷ verdict (w .answer) .place ∷ w .
 
 abbrev pub ofAnalysis : Analysis → List ℕ
 ofAnalysis a = a .number ∷ a .place ∷ a .nodes ∷ a .«cut_nodes» ∷ a .root ∷ a .«cut_root» ∷ []
+
+abbrev pub ofJudgement : Judgement → List ℕ
+ofJudgement j = j .number ∷ j .place ∷ []
 
 -- five numbers, and the words of the last set behind them
 abbrev pub ofListing : Listed → List ℕ

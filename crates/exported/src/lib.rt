@@ -1,4 +1,5 @@
 // The product's calls for other languages: numbers, slices (a pointer, then a length) and arrays (a pointer), the answer in a lent array.
+mod analysing; // a tree analysed, also under the settings of an edition
 mod ending; // an answer whose numbers end in the words of a set
 mod listings; // two listings compared
 mod moving; // a tree with sites, and without
@@ -19,9 +20,6 @@ ghost use Rattle.listing.specs.Answers.{Answered};
 ghost use Rattle.listing.specs.declared.Listed.{Listed};
 ghost use Rattle.bracket.specs.Bracketed.{Bracketed};
 ghost use Rattle.bracket.specs.declared.Ends.{Ends};
-ghost use Rattle.memory.specs.Memory.{memory};
-ghost use Rattle.analyser.specs.Analysed.{Analysed};
-ghost use Rattle.memory.specs.declared.Analysis.{Analysis};
 ghost use Rattle.exporting.specs.Exports.{exportOf};
 ghost use Rattle.equations.specs.Lists.{lists};
 ghost use Rattle.equations.specs.Contract.{Imports};
@@ -32,7 +30,7 @@ ghost use Rattle.folder.specs.Contract.{lent, lends, Gathers};
 ghost use Rattle.folder.specs.declared.Gathered.{Gathered};
 ghost use Rattle.arrays.specs.Chances.{Blank};
 ghost use Rattle.exported.specs.Arrays.{arrays, treeFrom, filled, after};
-ghost use Rattle.exported.specs.Numbers.{ofReading, ofWriting, ofAnalysis, ofListing, ofBracket, ofImport, ofTally, ofGathered};
+ghost use Rattle.exported.specs.Numbers.{ofReading, ofWriting, ofListing, ofBracket, ofImport, ofTally, ofGathered};
 
 // Puts a tree, whose events are all zero from the count on, into six arrays where the number is 0.
 fn fill(
@@ -166,45 +164,6 @@ pub extern "C" fn matticklet_write(
         rules::number(a) as u64,
         rules::place(a) as u64,
         w.bytes as u64,
-    ];
-}
-
-// Analyses a tree. The answer: number, place, nodes, cut nodes, root, cut root.
-#[no_mangle]
-pub extern "C" fn matticklet_analyse(
-    bytes: &[u8],
-    nodes: &mut [u32],
-    cuts: &mut [u32],
-    gates: &mut [u32],
-    added: &mut [u32],
-    memo: &mut [u32],
-    heads: &mut [u32],
-    next: &mut [u32],
-    marks: &mut [u32],
-    own: &mut [u32],
-    answer: &mut [u64; 6],
-)
-    ensures { λ _. ⌜ ((r : Analysis) × (Analysed (now (bytes .entry)) (memory (now (nodes .entry)) (now (cuts .entry)) (now (gates .entry)) (now (added .entry)) (now (memo .entry)) (now (heads .entry)) (now (next .entry)) (now (marks .entry)) (now (own .entry))) (memory (now (nodes .exit)) (now (cuts .exit)) (now (gates .exit)) (now (added .exit)) (now (memo .exit)) (now (heads .exit)) (now (next .exit)) (now (marks .exit)) (now (own .exit))) r × (now (answer .exit) ≡ ofAnalysis r))) ⌝ }
-{
-    let r = analyser::analyse(
-        bytes,
-        nodes,
-        cuts,
-        gates,
-        added,
-        memo,
-        heads,
-        next,
-        marks,
-        own,
-    );
-    *answer = [
-        r.number as u64,
-        r.place as u64,
-        r.nodes as u64,
-        r.cut_nodes as u64,
-        r.root as u64,
-        r.cut_root as u64,
     ];
 }
 

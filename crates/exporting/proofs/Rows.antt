@@ -10,7 +10,7 @@ use lib.ListN.{length, getD, drop, length-drop, drop-of-length-le}
 use lib.Seq.{slice-cons, getD-drop, getD-take, length-take-le}
 use borrow.Author.Tests.{eq-eqb, ne-eqb, lt-ltb, le-ltb}
 use Rattle.paper.specs.Trees.{Gate}
-use Rattle.paper.specs.Flat.{gatesFrom, inputOf}
+use Rattle.paper.specs.Flat.{gatesFrom, failedFrom, soundFrom, inputOf}
 use Rattle.paper.specs.Grammar.{andWord, orWord, comma, atLeastWord, inWord}
 use Rattle.paper.specs.Spelling.{join, joinAll}
 use Rattle.paper.specs.Exporting.{decimal, eventName, gateName, inputName, byGate, rightSide}
@@ -23,9 +23,17 @@ pub event-name : (code : ℕ) → code < gatesFrom → nameOf code ≡ (101 ∷ 
 unfolding eventName
 event-name code h = rw (lt-ltb code gatesFrom h) refl
 
-pub gate-name : (code : ℕ) → gatesFrom ≤ code → nameOf code ≡ (103 ∷ []) ++ decimal (code - gatesFrom)
+pub gate-name : (code : ℕ) → gatesFrom ≤ code → code < failedFrom → nameOf code ≡ (103 ∷ []) ++ decimal (code - gatesFrom)
 unfolding gateName
-gate-name code h = rw (le-ltb code gatesFrom h) refl
+gate-name code h l = rw (le-ltb code gatesFrom h, lt-ltb code failedFrom l) refl
+
+pub failed-name : (code : ℕ) → failedFrom ≤ code → code < soundFrom → nameOf code ≡ (101 ∷ []) ++ decimal (code - failedFrom)
+unfolding eventName
+failed-name code h l = rw (le-ltb code gatesFrom (omega arith), le-ltb code failedFrom h, lt-ltb code soundFrom l) refl
+
+pub sound-name : (code : ℕ) → soundFrom ≤ code → nameOf code ≡ (101 ∷ []) ++ decimal (code - soundFrom)
+unfolding eventName
+sound-name code h = rw (le-ltb code gatesFrom (omega arith), le-ltb code failedFrom (omega arith), le-ltb code soundFrom h) refl
 
 -- ---- a row of names
 

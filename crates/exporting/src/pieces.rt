@@ -3,8 +3,10 @@
 use decimals::DIGITS;
 use decimals::digits;
 use decimals::put;
+use paper::FAILED_FROM;
 use paper::GATES_FROM;
 use paper::IN_ALL;
+use paper::SOUND_FROM;
 ghost use mathlib.Core.List.{_++_};
 ghost use Prim.Native.Nat.{_+_, _≤_};
 ghost use lib.ListN.{length, drop};
@@ -34,7 +36,7 @@ pub fn lay_number(room: &mut [u8], at: usize, word: &[u8], n: u64) -> usize
     lay(room, a, &row[from..])
 }
 
-// Lays the name of an input.
+// Lays the name of an input: an event's, a gate's, or that of the event which is forced.
 pub fn lay_input(room: &mut [u8], at: usize, code: u16) -> usize
     requires { ⌜ at + 21 ≤ 1000000000 ⌝ }
     ensures { λ r. ⌜ Laid (now (room .entry)) at (nameOf code) (now (room .exit)) r × (r ≤ at + 21) ⌝ }
@@ -42,7 +44,13 @@ pub fn lay_input(room: &mut [u8], at: usize, code: u16) -> usize
     if code < GATES_FROM {
         return lay_number(room, at, b"e", code as u64);
     }
-    lay_number(room, at, b"g", (code - GATES_FROM) as u64)
+    if code < FAILED_FROM {
+        return lay_number(room, at, b"g", (code - GATES_FROM) as u64);
+    }
+    if code < SOUND_FROM {
+        return lay_number(room, at, b"e", (code - FAILED_FROM) as u64);
+    }
+    lay_number(room, at, b"e", (code - SOUND_FROM) as u64)
 }
 
 // Lays a separator and the name of an input.

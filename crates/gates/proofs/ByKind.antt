@@ -9,7 +9,7 @@ use lib.Dec.{eqb}
 use lib.ListN.{length, getD, take}
 use lib.Seq.{getD-take, length-take-le}
 use Rattle.paper.specs.Lists.{In}
-use Rattle.paper.specs.Trees.{Input, event, gate, Gate, andG, orG, leastG, distinctInputs}
+use Rattle.paper.specs.Trees.{Input, event, gate, forced, Gate, andG, orG, leastG, distinctInputs}
 use Rattle.paper.specs.Flat.{inputOf, gateOf}
 use Rattle.paper.specs.Diagrams.{Diagram, leaf}
 use Rattle.algebra.proofs.Lists.{in-left}
@@ -59,6 +59,7 @@ module _ (gs hs : List Diagram) (same : (i : ℕ) → getD gs i (leaf false) ≡
   inputs-same [] = refl
   inputs-same (event e ∷ is) = ap (inputD gs (event e) ∷_) (inputs-same is)
   inputs-same (gate i ∷ is) = ap₂ _∷_ (same i) (inputs-same is)
+  inputs-same (forced e b ∷ is) = ap (leaf b ∷_) (inputs-same is)
 
   pub value-same : (g : Gate) → valueD gs g ≡ valueD hs g
   value-same (andG is) = ap (joinAllD false) (inputs-same is)

@@ -11,7 +11,7 @@ use lib.Seq.{length-take-le}
 use borrow.Author.Tests.{eq-eqb, ne-eqb}
 use Rattle.paper.specs.Limits.{limits}
 use Rattle.paper.specs.Trees.{Input}
-use Rattle.paper.specs.Flat.{gatesFrom, inputOf}
+use Rattle.paper.specs.Flat.{gatesFrom, failedFrom, inputOf}
 use Rattle.twins.specs.Distinct.{distinctCodes, Distinct}
 use Rattle.twins.proofs.Firsts.{firsts-length, firsts-some, firsts-places}
 use Rattle.twins.proofs.Inputs.{distinct-inputs}
@@ -41,5 +41,5 @@ module _ {own out : List ℕ} {n : ℕ} (d : Distinct own out n) where
     found-own = subst (Own G) (sym (d .front)) (record {
       some = firsts-some eqb own (w .some);
       few = let f = firsts-length eqb own in let l = w .few in omega arith;
-      earlier = firsts-places eqb (λ x. x < gatesFrom + length G) 0 own (w .earlier);
+      earlier = firsts-places eqb (λ x. (x < failedFrom → x < gatesFrom + length G)) 0 own (w .earlier);
     })

@@ -2,20 +2,20 @@
 -- Assumes nothing.
 use mathlib.Core.Path.{_≡_, refl, sym, ap, ap₂, _∙_, subst}
 use mathlib.Core.Logic.{_⊎_, inl, inr}
-use mathlib.Core.Bool.{false, true≢false}
+use mathlib.Core.Bool.{Bool, true, false, true≢false}
 use mathlib.Core.List.{List, [], _∷_, _++_, map}
 use Prim.Native.Nat.{ℕ, zero, suc, _+_, _-_, _≤_, _<_}
 use native.Mathlib.Omega.{arith}
 use native.Mathlib.Numerals.{add-one}
 use lib.ListN.{length, take, getD, set, length-set}
 use lib.Seq.{take-suc, take-all, getD-set-same, getD-set-other}
-use borrow.Author.Tests.{lt-ltb, le-ltb}
 use Rattle.paper.specs.Lists.{In}
-use Rattle.paper.specs.Trees.{Input, event, gate}
+use Rattle.paper.specs.Trees.{Input, event, gate, forced}
 use Rattle.paper.specs.Sets.{none}
 use Rattle.paper.specs.Limits.{limits}
-use Rattle.paper.specs.Flat.{gatesFrom, inputOf}
+use Rattle.paper.specs.Flat.{gatesFrom, failedFrom, soundFrom, inputOf}
 use Rattle.paper.specs.Diagrams.{Diagram, leaf, node, eval, Reduced}
+use Rattle.twins.proofs.Codes.{is-event, is-gate, is-failed, is-sound}
 use Rattle.algebra.specs.Operations.{eventD}
 use Rattle.algebra.proofs.Lists.{map-append}
 use Rattle.tables.specs.Table.{den}
@@ -30,17 +30,11 @@ use Rattle.store.proofs.Denotes.{below-or-not}
 use Rattle.algebra.proofs.Subs.{part-reduced}
 use Rattle.store.proofs.Building.{makes-more, stops-more, is-part, tidy-step, placed-built}
 use Rattle.atleast.specs.Making.{Row, Within, Made}
-use Rattle.atleast.proofs.Making.{all-none, row-here, row-map, row-grown, at-map, map-long, made-here, made-one, made-seq, made-stops, stops-one, part-more}
+use Rattle.atleast.proofs.Making.{all-none, all-one, row-here, row-map, row-grown, at-map, map-long, made-here, made-one, made-seq, made-stops, stops-one, part-more}
 use Rattle.gates.specs.Rules.{inputD, eventStepsD}
 use Rattle.gates.specs.Rows.{Named, Names, Lined}
 
 -- ---- one input
-
-is-event : (code : ℕ) → code < gatesFrom → inputOf code ≡ event code
-is-event code h = rw (lt-ltb code gatesFrom h)
-
-is-gate : (code : ℕ) → gatesFrom ≤ code → inputOf code ≡ gate (code - gatesFrom)
-is-gate code h = rw (le-ltb code gatesFrom h)
 
 -- the triple of an event
 pub event-made : (e : ℕ) {T H X : List ℕ} {c : ℕ} → Store T H X c → (T′ H′ X′ : List ℕ) (p : Placed) → Puts T H X c (node e (den T 1) (den T 0)) T′ H′ X′ p
@@ -57,14 +51,28 @@ names-event gs code T c T′ H′ X′ r h b = subst (λ i. Names (i ∷ []) (in
     go (Short c′) b = stops-one (stops-more is-part b)
 
 -- a gate's node stands in the list
-pub names-gate : {T H X G : List ℕ} {c code : ℕ} → Store T H X c → Within c G → gatesFrom ≤ code → code < gatesFrom + length G
+pub names-gate : {T H X G : List ℕ} {c code : ℕ} → Store T H X c → Within c G → gatesFrom ≤ code → code < failedFrom → code < gatesFrom + length G
     → Named (inputOf code ∷ []) (inputD (map (den T) G) (inputOf code)) T c T H X c (getD G (code - gatesFrom) 0)
-names-gate {T} {H} {X} {G} {c} {code} s w h l =
+names-gate {T} {H} {X} {G} {c} {code} s w h f l =
     let k : code - gatesFrom < length G = omega arith in
-    subst (λ i. Named (i ∷ []) (inputD (map (den T) G) i) T c T H X c (getD G (code - gatesFrom) 0)) (sym (is-gate code h)) (record {
+    subst (λ i. Named (i ∷ []) (inputD (map (den T) G) i) T c T H X c (getD G (code - gatesFrom) 0)) (sym (is-gate code h f)) (record {
       made = made-here s all-none;
       found = record { within = w .each (code - gatesFrom) k; is = sym (at-map T G (code - gatesFrom) k) };
     })
+
+-- a forced event is a leaf
+forced-named : (gs : List Diagram) {T H X : List ℕ} {c e r : ℕ} {b : Bool} → Store T H X c → Found T c (leaf b) r → Named (forced e b ∷ []) (inputD gs (forced e b)) T c T H X c r
+forced-named gs s f = record { made = made-here s (all-one f); found = f }
+
+pub names-failed : (gs : List Diagram) {T H X : List ℕ} {c : ℕ} (code : ℕ) → Store T H X c → failedFrom ≤ code → code < soundFrom
+    → Named (inputOf code ∷ []) (inputD gs (inputOf code)) T c T H X c 1
+names-failed gs {T} {H} {X} {c} code s h l = subst (λ i. Named (i ∷ []) (inputD gs i) T c T H X c 1) (sym (is-failed code h l))
+    (forced-named gs s (record { within = omega arith; is = den-1 T }))
+
+pub names-sound : (gs : List Diagram) {T H X : List ℕ} {c : ℕ} (code : ℕ) → Store T H X c → soundFrom ≤ code
+    → Named (inputOf code ∷ []) (inputD gs (inputOf code)) T c T H X c 0
+names-sound gs {T} {H} {X} {c} code s h = subst (λ i. Named (i ∷ []) (inputD gs i) T c T H X c 0) (sym (is-sound code h))
+    (forced-named gs s (record { within = omega arith; is = den-0 T }))
 
 -- ---- all inputs
 
@@ -72,6 +80,7 @@ events-append : (is js : List Input) → eventStepsD (is ++ js) ≡ eventStepsD 
 events-append [] js = refl
 events-append (event e ∷ is) js = ap (eventD e ∷_) (events-append is js)
 events-append (gate g ∷ is) js = events-append is js
+events-append (forced e b ∷ is) js = ap (leaf b ∷_) (events-append is js)
 
 events-front : (d : Diagram) (i : ℕ) (is : List Input) → In d (eventStepsD (take i is)) → In d (eventStepsD is)
 events-front d zero is h = absurd h
@@ -79,6 +88,8 @@ events-front d (suc i) [] h = h
 events-front d (suc i) (event e ∷ is) (inl q) = inl q
 events-front d (suc i) (event e ∷ is) (inr h) = inr (events-front d i is h)
 events-front d (suc i) (gate g ∷ is) h = events-front d i is h
+events-front d (suc i) (forced e b ∷ is) (inl q) = inl q
+events-front d (suc i) (forced e b ∷ is) (inr h) = inr (events-front d i is h)
 
 -- a row with one number more
 row-add : {T : List ℕ} {c : ℕ} (ds : List Diagram) {R : List ℕ} (D : Diagram) {r : ℕ} → length ds < length R → Row T c ds R → Found T c D r → Row T c (ds ++ (D ∷ [])) (set R (length ds) r)
@@ -183,6 +194,8 @@ steps-reduced [] d h = absurd h
 steps-reduced (event e ∷ is) d (inl q) = subst Reduced (sym q) (event-reduced e)
 steps-reduced (event e ∷ is) d (inr h) = steps-reduced is d h
 steps-reduced (gate g ∷ is) d h = steps-reduced is d h
+steps-reduced (forced e b ∷ is) d (inl q) = subst Reduced (sym q) tt
+steps-reduced (forced e b ∷ is) d (inr h) = steps-reduced is d h
 
 pub events-tidy : (is : List Input) {T H X : List ℕ} {c : ℕ} {T′ H′ X′ : List ℕ} {c′ : ℕ} → Store T H X c → Tidy T c → Made (eventStepsD is) T c T′ H′ X′ c′ → Tidy T′ c′
 events-tidy is s t m = tidy-step s t (λ E p. part-reduced (p .whole) E (steps-reduced is (p .whole) (p .member)) (p .part .inside)) (m .step)

@@ -6,7 +6,7 @@ use Prim.Native.Nat.{ℕ, _+_, _≤_, _<_}
 use lib.ListN.{length, getD}
 use Rattle.paper.specs.Limits.{limits}
 use Rattle.paper.specs.Trees.{Input}
-use Rattle.paper.specs.Flat.{gatesFrom}
+use Rattle.paper.specs.Flat.{gatesFrom, failedFrom}
 use Rattle.paper.specs.Diagrams.{Diagram}
 use Rattle.store.specs.Building.{PartOf, Found, Stops}
 use Rattle.store.specs.declared.Built.{Built}
@@ -16,11 +16,11 @@ use Rattle.atleast.specs.declared.Count.{Count}
 use Rattle.atleast.specs.declared.Count.the-variants.{To, Full}
 use Rattle.gates.specs.Rules.{inputD, eventStepsD}
 
--- the inputs of one gate, after so many gates
+-- the inputs of one gate, after so many gates; a forced event stands for itself
 pub record Own (gates own : List ℕ) : Type 0 where
   pub some : 1 ≤ length own
   pub few : length own ≤ limits .inputs
-  pub earlier : (j : ℕ) → j < length own → getD own j 0 < gatesFrom + length gates
+  pub earlier : (j : ℕ) → j < length own → getD own j 0 < failedFrom → getD own j 0 < gatesFrom + length gates
 
 -- ---- their nodes; gs are the diagrams of the gates before
 

@@ -1,14 +1,16 @@
-// The nodes of a gate's inputs: an event's is made where it is first used, a gate's stands in the gate list.
+// The nodes of a gate's inputs: an event's is made where it is first used, a gate's stands in the gate list, and a forced event's is a leaf.
 use atleast::Count;
+use paper::FAILED_FROM;
 use paper::GATES_FROM;
 use paper::INPUTS;
+use paper::SOUND_FROM;
 use store::Built;
 ghost use mathlib.Core.Path.{_≡_};
 ghost use mathlib.Core.List.{map, [], _∷_};
 ghost use Prim.Native.Nat.{_+_, _<_};
 ghost use lib.ListN.{length};
 ghost use Rattle.paper.specs.Limits.{limits};
-ghost use Rattle.paper.specs.Flat.{gatesFrom, inputOf};
+ghost use Rattle.paper.specs.Flat.{gatesFrom, failedFrom, inputOf};
 ghost use Rattle.algebra.specs.Operations.{eventD};
 ghost use Rattle.tables.specs.Table.{den};
 ghost use Rattle.store.specs.Store.{Store};
@@ -36,14 +38,20 @@ fn input_node(
 ) -> Built
     requires { ⌜ Store (now nodes) (now heads) (now next) count ⌝ }
     requires { ⌜ Within count (now gates) ⌝ }
-    requires { ⌜ code < gatesFrom + length (now gates) ⌝ }
+    requires { ⌜ (code < failedFrom → code < gatesFrom + length (now gates)) ⌝ }
     ensures { λ r. ⌜ Names (inputOf code ∷ []) (inputD (map (den (now (nodes .entry))) (now (gates .entry))) (inputOf code)) (now (nodes .entry)) count (now (nodes .exit)) (now (heads .exit)) (now (next .exit)) r ⌝ }
 {
     if code < GATES_FROM {
         return event_node(nodes, heads, next, count, code as u32);
     }
-    let g = (code - GATES_FROM) as usize;
-    Built::Done(gates[g], count)
+    if code < FAILED_FROM {
+        let g = (code - GATES_FROM) as usize;
+        return Built::Done(gates[g], count);
+    }
+    if code < SOUND_FROM {
+        return Built::Done(1, count);
+    }
+    Built::Done(0, count)
 }
 
 // The nodes of all inputs of a gate, from the front of the row on.

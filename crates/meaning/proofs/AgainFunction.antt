@@ -16,7 +16,7 @@ use Rattle.paper.specs.Bytes.{same}
 use Rattle.paper.specs.Twins.{firsts}
 use Rattle.paper.specs.Sets.{Set}
 use Rattle.paper.specs.Functions.{Fun}
-use Rattle.paper.specs.Trees.{Input, event, gate, Gate, andG, orG, leastG, sameInput, distinctInputs, Tree, events, constF, everyFails, someFails, countFails, inputFun, gateFun, gateFunsFrom, gateFuns, rootFun, InputBelow}
+use Rattle.paper.specs.Trees.{Input, event, gate, forced, Gate, andG, orG, leastG, sameInput, distinctInputs, Tree, events, constF, everyFails, someFails, countFails, inputFun, gateFun, gateFunsFrom, gateFuns, rootFun, InputBelow}
 use Rattle.paper.specs.Meaning.{Names, someName, everyName, countNames, connected, byLine, failsIn}
 use Rattle.paper.specs.Importing.{inputsTo}
 use Rattle.paper.specs.Exporting.{eventName, gateName, inputName}
@@ -89,6 +89,7 @@ module _ (t : Tree) (w : Rules limits t) (S : Names) (v : Set) (own : (e : ℕ) 
   input-fails : (h : ℕ) (gs : List Fun) → Right h gs → (k : ℕ) → h ≤ k → (i : Input) → InputBelow (events t) i → InputLower h i → failsIn (linesSaid t) k S (inputName i) ≡ inputFun gs i v
   input-fails h gs r k l (event e) b c = event-fails k e b
   input-fails h gs r k l (gate j) b c = r j c k (omega arith)
+  input-fails h gs r k l (forced e x) b c = absurd c
 
   gate-fails : (h : ℕ) (gs : List Fun) → h < length (t .gates) → Right h gs → (k : ℕ) → h < k → failsIn (linesSaid t) k S (gateName h) ≡ gateFun gs (getD (t .gates) h noGate) v
   unfolding failsIn

@@ -9,7 +9,7 @@ use native.Mathlib.Omega.{arith}
 use lib.ListN.{getD, length}
 use Rattle.paper.specs.Limits.{limits}
 use Rattle.paper.specs.Lists.{In}
-use Rattle.paper.specs.Trees.{Input, event, gate, Gate, andG, orG, leastG, Tree, events, InputBelow, InputsBelow, GateBelow, TreeBelow}
+use Rattle.paper.specs.Trees.{Input, event, gate, forced, Gate, andG, orG, leastG, Tree, events, InputBelow, InputsBelow, GateBelow, TreeBelow}
 use Rattle.paper.specs.Grammar.{bad}
 use Rattle.paper.specs.Texts.{Placed}
 use Rattle.paper.specs.Equations.{dictIn, nameIn, namesIn, lineIn, rightsOf, numberOf, inputsIn, chanceIn, definedIn, wrongFrom, wrongIn, twiceIn}
@@ -91,6 +91,7 @@ module _ (t : Tree) (w : Rules limits t) where
       go : (i : Input) → InputBelow (events t) i → InputLower (0 + g) i → Small i
       go (event e) b c = omega (arith, few-events)
       go (gate j) b c = omega (arith, few-gates)
+      go (forced e x) b c = absurd c
 
   -- ---- the lines of names
 
@@ -139,6 +140,7 @@ module _ (t : Tree) (w : Rules limits t) where
       let (g, l, k) = used-at (t .gates) (gate j) h in
       let b : j < 0 + g = lower-at 0 (t .gates) (w .whole .lower) g (gate j) k in
       inl (j, omega arith, q)
+  kind-input v (forced e x) h q = let (g, l, k) = used-at (t .gates) (forced e x) h in absurd (lower-at 0 (t .gates) (w .whole .lower) g (forced e x) k)
 
   pub name-kind : (v : List ℕ) → In v (namesIn (linesSaid t)) → Kind v
   unfolding linesSaid
@@ -156,6 +158,7 @@ module _ (t : Tree) (w : Rules limits t) where
 
   rank-input : (g : ℕ) (i : Input) → g < N → In i (inputsTo (getD (t .gates) g noGate)) → rank (inputName i) < rank (gateName g)
   rank-input g (event e) l h = let a = rank-event e in let b = rank-gate g (omega (arith, few-gates)) in omega arith
+  rank-input g (forced e x) l h = absurd (lower-at 0 (t .gates) (w .whole .lower) g (forced e x) h)
   rank-input g (gate j) l h =
       let c : j < 0 + g = lower-at 0 (t .gates) (w .whole .lower) g (gate j) h in
       let a = rank-gate j (omega (arith, few-gates)) in

@@ -9,7 +9,7 @@ use lib.ListN.{getD}
 use Rattle.paper.specs.Lists.{lastOr}
 use Rattle.paper.specs.Sets.{Set}
 use Rattle.paper.specs.Functions.{Fun}
-use Rattle.paper.specs.Trees.{Input, event, gate, Gate, andG, orG, leastG, distinctInputs, constF, everyFails, someFails, countFails, inputFun, gateFun, gateFunsFrom, gateFuns, rootFun, InputBelow, InputsBelow, GateBelow, TreeBelow}
+use Rattle.paper.specs.Trees.{Input, event, gate, forced, Gate, andG, orG, leastG, distinctInputs, constF, everyFails, someFails, countFails, inputFun, gateFun, gateFunsFrom, gateFuns, rootFun, InputBelow, InputsBelow, GateBelow, TreeBelow}
 use Rattle.twins.proofs.Inputs.{distinct-below}
 
 -- two sets with the same events below n
@@ -40,6 +40,7 @@ module _ (n : ℕ) where
   blind-input : (gs : List Fun) → AllBlind gs → (i : Input) → InputBelow n i → Blind n (inputFun gs i)
   blind-input gs b (event e) l v u h = h e l
   blind-input gs b (gate i) l v u h = blind-at gs i b v u h
+  blind-input gs b (forced e c) l v u h = refl
 
   blind-row : (gs : List Fun) → AllBlind gs → (is : List Input) → InputsBelow n is → AllBlind (map (inputFun gs) is)
   blind-row gs b [] l = tt

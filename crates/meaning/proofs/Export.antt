@@ -10,7 +10,7 @@ use lib.Dec.{leb}
 use lib.ListN.{length, length-append, getD}
 use Rattle.paper.specs.Limits.{limits, billion}
 use Rattle.paper.specs.Lists.{In, every}
-use Rattle.paper.specs.Trees.{Input, event, gate, Gate, andG, orG, leastG, sameInput, Tree, events, rootFun}
+use Rattle.paper.specs.Trees.{Input, event, gate, forced, Gate, andG, orG, leastG, sameInput, Tree, events, rootFun}
 use Rattle.paper.specs.Chance.{total}
 use Rattle.paper.specs.Grammar.{chance, equation, at-least, isName, lineOf, andWord, orWord, comma, equals, atLeastWord, inWord, blank, chanceWord}
 use Rattle.paper.specs.Texts.{says, lineFeed, linesFrom, linesOf}
@@ -38,6 +38,7 @@ Plain l = every (leb 32) l ≡ true
 input-plain : (i : Input) → Plain (inputName i)
 input-plain (event e) = event-plain e
 input-plain (gate g) = gate-plain g
+input-plain (forced e b) = event-plain e
 
 join-plain : (sep : List ℕ) → Plain sep → (i : Input) (is : List Input) → Plain (join sep (inputName i) (map inputName is))
 unfolding join
@@ -131,6 +132,7 @@ chances-lines at e (c ∷ cs) h f =
 module _ (t : Tree) (w : Rules limits t) where
   named : (g : ℕ) (i : Input) → g < length (t .gates) → In i (inputsTo (getD (t .gates) g (orG []))) → isName (inputName i) ≡ true
   named g (event e) l h = let b = below-at (events t) (t .gates) (w .whole .below) g (event e) h in event-is-name e (omega (arith, w .within .fewEvents))
+  named g (forced e x) l h = absurd (lower-at 0 (t .gates) (w .whole .lower) g (forced e x) h)
   named g (gate j) l h = let b : j < 0 + g = lower-at 0 (t .gates) (w .whole .lower) g (gate j) h in gate-is-name j (omega (arith, w .within .fewGates))
 
   typable : (x : Gate) → In x (t .gates) → Typable x

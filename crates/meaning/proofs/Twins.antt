@@ -10,7 +10,7 @@ use lib.ListN.{getD, length}
 use Rattle.paper.specs.Lists.{In}
 use Rattle.paper.specs.Bytes.{same}
 use Rattle.paper.specs.Twins.{firsts}
-use Rattle.paper.specs.Trees.{Input, event, gate, sameInput, distinctInputs}
+use Rattle.paper.specs.Trees.{Input, event, gate, forced, sameInput, distinctInputs}
 use Rattle.paper.specs.Texts.{Placed}
 use Rattle.paper.specs.Equations.{dictIn, nameIn, namesIn, numbers, numberOf, inputsIn}
 use Rattle.paper.specs.Walks.{isEvent}
@@ -27,6 +27,8 @@ use Rattle.meaning.proofs.Decimals.{small, gate-inj, event-inj, event-n
 same-itself : (i : Input) → sameInput i i ≡ true
 same-itself (event e) = eq-eqb e e refl
 same-itself (gate g) = eq-eqb g g refl
+same-itself (forced e true) = rw (eq-eqb e e refl)
+same-itself (forced e false) = rw (eq-eqb e e refl)
 
 place-apart : (l : List ℕ) (x y : ℕ) → In x l → In y l → eqb (placeIn x l) (placeIn y l) ≡ true → x ≡ y
 place-apart l x y h k e = sym (place-is x l h) ∙ ap (λ j. getD l j 0) (eqb-true (placeIn x l) (placeIn y l) e) ∙ place-is y l k
@@ -67,17 +69,21 @@ module _ {ls : List Placed} {root : ℕ} (r : Rooted ls root) where
 
 -- ---- a tree's own text
 
--- an input whose number can be typed
+-- an input that can be typed, by its number
 abbrev pub Small : Input → Type 0
 Small (event e) = e < small
 Small (gate g) = g < small
+Small (forced e b) = ⊥
 
 same-names : (i j : Input) → Small i → Small j → same (inputName i) (inputName j) ≡ sameInput i j
 same-names (event e) (event f) h k = bool-iff (same (eventName e) (eventName f)) (eqb e f)
     (λ q. eq-eqb e f (event-inj e f h k (same-eq (eventName e) (eventName f) q)))
     (λ q. subst (λ z. same (eventName e) (eventName z) ≡ true) (eqb-true e f q) (same-refl (eventName e)))
 same-names (event e) (gate g) h k = not-same (eventName e) (gateName g) (event-no-gate e g k)
+same-names (event e) (forced f b) h k = absurd k
 same-names (gate g) (event e) h k = not-same (gateName g) (eventName e) (λ q. event-no-gate e g h (sym q))
+same-names (gate g) (forced f b) h k = absurd k
+same-names (forced f b) j h k = absurd h
 same-names (gate g) (gate j) h k = bool-iff (same (gateName g) (gateName j)) (eqb g j)
     (λ q. eq-eqb g j (gate-inj g j h k (same-eq (gateName g) (gateName j) q)))
     (λ q. subst (λ z. same (gateName g) (gateName z) ≡ true) (eqb-true g j q) (same-refl (gateName g)))

@@ -10,7 +10,8 @@ use Rattle.paper.specs.Trees.{Tree, events, rootFun}
 use Rattle.paper.specs.Nodes.{nodesToGate, nodesOf}
 use Rattle.paper.specs.Cuts.{cutNodesNeeded}
 
--- a number of the list and its place: that of 10 is the gate being built; a done answer, and a refusal by 9 or by 11 to 14, has place 0
+-- a number of the list and its place: that of 10 is the gate being built, that of 24 and 13 of a store its faulty record's; a done answer, and any
+-- other refusal by 9 or by 11 to 14, has place 0
 pub record Verdict : Type 0 where
   pub number : ℕ
   pub place : ℕ

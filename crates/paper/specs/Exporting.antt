@@ -4,7 +4,7 @@ use mathlib.Core.Bool.{cond}
 use mathlib.Core.List.{List, [], _∷_, _++_, map}
 use Prim.Native.Nat.{ℕ, zero, suc, _+_, _/_, _%_}
 use lib.Dec.{ltb}
-use Rattle.paper.specs.Trees.{Input, event, gate, Gate, andG, orG, leastG, Tree}
+use Rattle.paper.specs.Trees.{Input, event, gate, forced, Gate, andG, orG, leastG, Tree}
 use Rattle.paper.specs.Grammar.{andWord, orWord, comma, equals, atLeastWord, inWord}
 use Rattle.paper.specs.Texts.{lineFeed}
 use Rattle.paper.specs.Importing.{inputsTo}
@@ -26,9 +26,11 @@ eventName e = 101 ∷ decimal e
 unfoldable pub gateName : ℕ → List ℕ
 gateName g = 103 ∷ decimal g
 
+-- a tree that is typed has no forced event
 abbrev pub inputName : Input → List ℕ
 inputName (event e) = eventName e
 inputName (gate g) = gateName g
+inputName (forced e b) = eventName e
 
 -- the right side of a gate's equation, over its inputs' names: a gate of one input is that input
 abbrev pub byGate : Gate → List (List ℕ) → List ℕ

@@ -1,19 +1,27 @@
 -- A tree as memory holds it: the kind, the k and the n of each gate, and the inputs of all gates in a row.
 -- Assumes nothing.
-use mathlib.Core.Bool.{cond}
+use mathlib.Core.Bool.{true, false, cond}
 use mathlib.Core.List.{List, [], _∷_, map}
 use Prim.Native.Nat.{ℕ, _+_, _-_}
 use lib.Dec.{ltb, eqb}
 use lib.ListN.{getD, take, drop}
 use Rattle.paper.specs.Limits.{limits}
-use Rattle.paper.specs.Trees.{Input, event, gate, Gate, andG, orG, leastG}
+use Rattle.paper.specs.Trees.{Input, event, gate, forced, Gate, andG, orG, leastG}
 
 -- the input that stands for gate 0: an event's input is its number, and a gate's is its number with this added
 abbrev pub gatesFrom : ℕ
 gatesFrom = limits .events
 
+-- the inputs that stand for event 0 where it is forced failed, and where it is forced sound
+abbrev pub failedFrom : ℕ
+failedFrom = gatesFrom + limits .gates
+
+abbrev pub soundFrom : ℕ
+soundFrom = failedFrom + limits .events
+
 abbrev pub inputOf : ℕ → Input
-inputOf code = cond (ltb code gatesFrom) (event code) (gate (code - gatesFrom))
+inputOf code = cond (ltb code gatesFrom) (event code) (cond (ltb code failedFrom) (gate (code - gatesFrom))
+    (cond (ltb code soundFrom) (forced (code - failedFrom) true) (forced (code - soundFrom) false)))
 
 -- 2 is and, 3 is or, 4 at least
 abbrev pub gateOf : ℕ → ℕ → List Input → Gate

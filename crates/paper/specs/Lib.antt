@@ -18,6 +18,8 @@ pub mod Chance
 pub mod Sizes
 pub mod Reports
 pub mod Answers
+pub mod Store
+pub mod Forcing
 pub mod Bytes
 pub mod Grammar
 pub mod Texts
@@ -31,3 +33,4 @@ pub mod Spots
 pub mod Cases
 pub mod TextCases
 pub mod ReportCases
+pub mod SeasonCases

@@ -7,7 +7,7 @@ use Prim.Native.Nat.{ℕ, zero, suc}
 use lib.Dec.{leb}
 use lib.ListN.{length, getD}
 use Rattle.paper.specs.Functions.{Fun}
-use Rattle.paper.specs.Trees.{Input, event, gate, Gate, andG, orG, leastG, distinctInputs, eventF, constF}
+use Rattle.paper.specs.Trees.{Input, event, gate, forced, Gate, andG, orG, leastG, distinctInputs, eventF, constF}
 
 -- events, constants and joins: jn z x y is `and` with z false, `or` with z true
 module _ {X : Type 0} (ev : ℕ → X) (ct : Bool → X) (jn : Bool → X → X → X) where
@@ -47,17 +47,19 @@ module _ {X : Type 0} (ev : ℕ → X) (ct : Bool → X) (jn : Bool → X → X 
   abbrev pub input : List X → Input → X
   input gs (event e) = ev e
   input gs (gate i) = getD gs i (ct false)
+  input gs (forced e b) = ct b
 
   abbrev pub value : List X → Gate → X
   value gs (andG is) = joinAll false (map (input gs) is)
   value gs (orG is) = joinAll true (map (input gs) is)
   value gs (leastG k is) = least k (map (input gs) (distinctInputs is))
 
-  -- an event is made where a gate uses it; an at-least gate's steps run over its distinct inputs
+  -- an event is made where a gate uses it, and a forced one is a constant; an at-least gate's steps run over its distinct inputs
   abbrev pub eventSteps : List Input → List X
   eventSteps [] = []
   eventSteps (event e ∷ is) = ev e ∷ eventSteps is
   eventSteps (gate i ∷ is) = eventSteps is
+  eventSteps (forced e b ∷ is) = ct b ∷ eventSteps is
 
   abbrev pub steps : List X → Gate → List X
   steps gs (andG is) = eventSteps is ++ joinAllSteps false (map (input gs) is)

@@ -1,6 +1,6 @@
 -- Fault trees: events, gates over events and earlier gates, and the function of each gate.
 -- Assumes nothing.
-use mathlib.Core.Bool.{Bool, true, false, cond, _&&_, _||_}
+use mathlib.Core.Bool.{Bool, true, false, cond, _&&_, _||_, Bool·beq}
 use mathlib.Core.List.{List, [], _∷_, _++_, map}
 use Prim.Native.Nat.{ℕ, _+_, _<_}
 use lib.Dec.{leb, eqb}
@@ -13,13 +13,20 @@ use Rattle.paper.specs.Functions.{Fun}
 pub data Input : Type 0 where
   event : ℕ → Input
   gate : ℕ → Input
+  -- an event that is forced, failed (true) or sound (false): a constant. A tree as it is read has none.
+  forced : ℕ → Bool → Input
 
--- the same event, or the same gate; two gates with one function are two
+-- the same event, or the same gate; two gates with one function are two, and so are two forced events
 abbrev pub sameInput : Input → Input → Bool
 sameInput (event a) (event b) = eqb a b
 sameInput (event a) (gate b) = false
+sameInput (event a) (forced b y) = false
 sameInput (gate a) (event b) = false
 sameInput (gate a) (gate b) = eqb a b
+sameInput (gate a) (forced b y) = false
+sameInput (forced a x) (event b) = false
+sameInput (forced a x) (gate b) = false
+sameInput (forced a x) (forced b y) = eqb a b && Bool·beq x y
 
 -- each input once, at its first place
 abbrev pub distinctInputs : List Input → List Input
@@ -65,6 +72,7 @@ countFails (F ∷ Fs) v = cond (F v) 1 0 + countFails Fs v
 abbrev pub inputFun : List Fun → Input → Fun
 inputFun gs (event e) = eventF e
 inputFun gs (gate i) = getD gs i (constF false)
+inputFun gs (forced e b) = constF b
 
 abbrev pub gateFun : List Fun → Gate → Fun
 gateFun gs (andG is) v = everyFails (map (inputFun gs) is) v
@@ -88,6 +96,7 @@ rootFun t = lastOr (constF false) (gateFuns t)
 abbrev pub InputBelow : ℕ → Input → Type 0
 InputBelow n (event e) = e < n
 InputBelow n (gate i) = Unit {0}
+InputBelow n (forced e b) = e < n
 
 abbrev pub InputsBelow : ℕ → List Input → Type 0
 InputsBelow n [] = Unit {0}

@@ -14,6 +14,7 @@ use Rattle.paper.specs.Trees.{Input, event, gate, distinctInputs, InputBelow, I
 use Rattle.paper.specs.Walks.{isEvent}
 use Rattle.twins.specs.Distinct.{distinctCodes, Distinct}
 use Rattle.records.specs.Memory.{pad}
+use Rattle.records.specs.Trees.{InputLower, InputsLower}
 use Rattle.records.specs.Flattened.{codeOf}
 use Rattle.records.proofs.Lists.{map-length}
 use Rattle.records.proofs.Pad.{pad-take, pad-length}
@@ -34,6 +35,14 @@ module _ {S I : List ℕ} {n : ℕ} {N : List ℕ} {x : ℕ} (a : Sortable S I n
       one : (b : Bool) → InputBelow (limits .events) (cond b (event (getD N y 0)) (gate (getD N y 0)))
       one true = h y (inl refl)
       one false = tt
+
+  lower : (l : List ℕ) → ((y : ℕ) → In y l → getD N y 0 < limits .events) → InputsLower (limits .events) (map (inputAt S I N) l)
+  lower [] h = tt
+  lower (y ∷ l) h = (one (isEvent (inputsOf S I y)), lower l (λ z k. h z (inr k)))
+    where
+      one : (b : Bool) → InputLower (limits .events) (cond b (event (getD N y 0)) (gate (getD N y 0)))
+      one true = tt
+      one false = h y (inl refl)
 
   -- their numbers in an empty array
   module _ {size : ℕ} (e : size ≡ length (inputsOf S I x)) {out : List ℕ} (puts : Puts S I N (inputsOf S I x) 0 (pad (limits .inAll) 0 []) out) where
@@ -64,7 +73,7 @@ module _ {S I : List ℕ} {n : ℕ} {N : List ℕ} {x : ℕ} (a : Sortable S I n
     sort-told d small =
         let is : List Input = map (inputAt S I N) (inputsOf S I x) in
         d .count ∙ ap (λ l. length (distinctCodes l)) (front ∙ sym (map-map codeOf (inputAt S I N) (inputsOf S I x)))
-        ∙ ap length (distinct-codes (limits .events) (omega arith) is (below (inputsOf S I x) (a .small))) ∙ map-length codeOf (distinctInputs is)
+        ∙ ap length (distinct-codes (limits .events) (omega arith) (limits .events) is (below (inputsOf S I x) (a .small)) (lower (inputsOf S I x) (a .small))) ∙ map-length codeOf (distinctInputs is)
 
   -- more than one gate may have
   pub sort-many : {size : ℕ} → size ≡ length (inputsOf S I x) → limits .inputs < size → DistinctTold S I N x size

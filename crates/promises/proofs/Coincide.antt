@@ -162,7 +162,7 @@ module _ {b c : Book} (same : c ≡ b) (m : Memory) where
   finished : {m′ : Memory} {a : Analysis} → Done (treeOf c) m m′ a → Done (treeOf b) m m′ a
   finished {m′} {a} = subst (λ x. Done (treeOf x) m m′ a) same
 
-refusing : {v : Verdict} {m₁ m₂ : Memory} {a₁ a₂ : Analysis} → 1 ≤ v .number → Refused v a₁ → Refused v a₂ → m₂ ≡ m₁ → Coincide m₁ m₂ a₁ a₂
+pub refusing : {v : Verdict} {m₁ m₂ : Memory} {a₁ a₂ : Analysis} → 1 ≤ v .number → Refused v a₁ → Refused v a₂ → m₂ ≡ m₁ → Coincide m₁ m₂ a₁ a₂
 refusing l r s e = Coincide.refused (λ z. let w = r .number in omega arith) (same-refused r s) e
 
 -- THE LAW

@@ -11,9 +11,11 @@ pub mod Promises
 pub mod SameGates
 pub mod Serving
 pub mod OnTables
+pub mod AnyTree
 pub mod Delivers
 pub mod BySize
 pub mod Report
 pub mod Old
 pub mod Sites
 pub mod Changed
+pub mod Season

@@ -32,10 +32,9 @@ use Rattle.listing.specs.Joined.{Joined}
 use Rattle.listing.proofs.Join.{join, join-all}
 use Rattle.bracket.specs.Bracketed.{chanceIn, Enough, Chances, Bracketed}
 use Rattle.bracket.proofs.Outcome.{encloses-built}
-use Rattle.memory.specs.Memory.{Memory, capacity}
+use Rattle.memory.specs.Memory.{Memory}
 use Rattle.memory.specs.Outcome.{Done}
 use Rattle.analysis.specs.Completing.{Sound}
-use Rattle.promises.specs.Delivers.{Own}
 use Rattle.memory.specs.declared.Analysis.{Analysis}
 use Rattle.promises.proofs.Promises.{root-function}
 
@@ -88,13 +87,6 @@ module _ {t : Tree} {m m′ : Memory} {a : Analysis} (d : Done t m m′ a) where
     bracket-encloses b q =
         subst (λ F. Brackets billion (events t - 1) (total billion (chanceIn A) (events t) 0 F) (dependsOn (events t) F) lo hi) (root-function d some)
         (encloses-built (d .node-table .unique) b q)
-
--- with the tree's own chances
-pub own-answers : (b : Book) → Lawful limits b → {m m′ : Memory} {a : Analysis} → Done (treeOf b) m m′ a → {A L H L′ H′ : List ℕ} {number place lo hi : ℕ}
-    → Bracketed (events (treeOf b)) (m′ .nodes) (a .nodes) (a .root) A number place lo hi L H L′ H′
-    → Own (treeOf b) A → capacity (m′ .nodes) ≤ length L → capacity (m′ .nodes) ≤ length H → number ≡ 0
-own-answers b l d {A} x o p q = bracket-answers d x (record { chances = o .enough; lows = p; highs = q })
-    (record { each = λ e h. subst (λ k. k ≤ billion) (sym (o .each e h)) (own-chances b l e h) })
 
 -- ---- the cuts of a sound tree
 

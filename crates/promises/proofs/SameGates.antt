@@ -9,7 +9,7 @@ use lib.ListN.{length, getD, length-append, List·getD-append}
 use lib.Seq.{getD-append-seam}
 use lib.Dec.{leb}
 use Rattle.paper.specs.Functions.{Fun}
-use Rattle.paper.specs.Trees.{Input, event, gate, Gate, andG, orG, leastG, sameInput, distinctInputs, constF, everyFails, someFails, countFails, inputFun, gateFun, gateFunsFrom, gateFuns}
+use Rattle.paper.specs.Trees.{Input, event, gate, forced, Gate, andG, orG, leastG, sameInput, distinctInputs, constF, everyFails, someFails, countFails, inputFun, gateFun, gateFunsFrom, gateFuns}
 use Rattle.twins.proofs.Firsts.{firsts-in}
 use Rattle.algebra.proofs.Lists.{map-agree, map-same}
 use Rattle.algebra.proofs.Least.{least-one, least-all}
@@ -35,6 +35,7 @@ same-inputs : (n : ℕ) (gs hs : List Fun) → Agree n gs hs → (is : List Inpu
 same-inputs n gs hs e [] l = refl
 same-inputs n gs hs e (event i ∷ is) l = ap (inputFun hs (event i) ∷_) (same-inputs n gs hs e is (l .1))
 same-inputs n gs hs e (gate i ∷ is) l = ap₂ _∷_ (e i (l .0)) (same-inputs n gs hs e is (l .1))
+same-inputs n gs hs e (forced f b ∷ is) l = absurd (l .0)
 
 same-distinct : (n : ℕ) (gs hs : List Fun) → Agree n gs hs → (is : List Input) → InputsLower n is → map (inputFun gs) (distinctInputs is) ≡ map (inputFun hs) (distinctInputs is)
 same-distinct n gs hs e is l =

@@ -8,3 +8,4 @@ pub mod Report
 pub mod Old
 pub mod Sites
 pub mod Changed
+pub mod Season

@@ -1,6 +1,6 @@
 -- A tree laid out as memory holds it is that tree again, and it keeps the rules that the tree keeps.
 -- Assumes nothing.
-use mathlib.Core.Path.{_≡_, refl, sym, ap, _∙_}
+use mathlib.Core.Path.{_≡_, refl, sym, ap, _∙_, subst}
 use mathlib.Core.Logic.{inl, inr}
 use mathlib.Core.Bool.{Bool, true, false, cond, _||_}
 use mathlib.Core.List.{List, [], _∷_, _++_, map, append-assoc}
@@ -12,8 +12,8 @@ use lib.Seq.{take-at, drop-at, getD-at, drop-append-add, getD-append-add}
 use borrow.Author.Tests.{ltb-false, lt-ltb, le-ltb, eq-eqb}
 use Rattle.paper.specs.Limits.{limits}
 use Rattle.paper.specs.Lists.{In, flat, sum}
-use Rattle.paper.specs.Trees.{Input, event, gate, Gate, andG, orG, leastG, distinctInputs, Tree, events, InputBelow, InputsBelow, GateBelow, TreeBelow}
-use Rattle.paper.specs.Flat.{gatesFrom, inputOf, gateOf, gatesOf}
+use Rattle.paper.specs.Trees.{Input, event, gate, forced, Gate, andG, orG, leastG, distinctInputs, Tree, events, InputBelow, InputsBelow, GateBelow, TreeBelow}
+use Rattle.paper.specs.Flat.{gatesFrom, failedFrom, inputOf, gateOf, gatesOf}
 use Rattle.paper.specs.Importing.{inputsTo, leastBreaks, eventsBreak, gatesBreak}
 use Rattle.twins.specs.Distinct.{distinctCodes}
 use Rattle.rules.specs.Rules.{Fits}
@@ -79,13 +79,18 @@ used-among {i} {xs} u = in-among (codeOf i) (flat codesOf xs) (in-codes (codeOf 
 
 -- ---- the tree again
 
-input-again : (n : ℕ) → n ≤ gatesFrom → (i : Input) → InputBelow n i → inputOf (codeOf i) ≡ i
-input-again n l (event e) h = rw (lt-ltb e gatesFrom (omega arith))
-input-again n l (gate g) h = let q : gatesFrom + g - gatesFrom ≡ g = omega arith in rw (le-ltb (gatesFrom + g) gatesFrom (omega arith), q)
+-- n events, and a gate numbered g
+module _ (n g : ℕ) (few : n ≤ gatesFrom) (low : g ≤ limits .gates) where
+  input-again : (i : Input) → InputBelow n i → InputLower g i → inputOf (codeOf i) ≡ i
+  input-again (event e) h l = rw (lt-ltb e gatesFrom (omega arith))
+  input-again (gate k) h l =
+      let q : gatesFrom + k - gatesFrom ≡ k = omega arith in
+      rw (le-ltb (gatesFrom + k) gatesFrom (omega arith), lt-ltb (gatesFrom + k) failedFrom (omega arith), q)
+  input-again (forced e b) h l = absurd l
 
-inputs-again : (n : ℕ) → n ≤ gatesFrom → (is : List Input) → InputsBelow n is → map inputOf (map codeOf is) ≡ is
-inputs-again n l [] h = refl
-inputs-again n l (i ∷ is) h = λ j. input-again n l i (h .0) j ∷ inputs-again n l is (h .1) j
+  inputs-again : (is : List Input) → InputsBelow n is → InputsLower g is → map inputOf (map codeOf is) ≡ is
+  inputs-again [] h l = refl
+  inputs-again (i ∷ is) h l = λ j. input-again i (h .0) (l .0) j ∷ inputs-again is (h .1) (l .1) j
 
 gate-inputs-below : (n : ℕ) (x : Gate) → GateBelow n x → InputsBelow n (inputsTo x)
 gate-inputs-below n (andG is) h = h
@@ -97,32 +102,37 @@ gate-again (andG is) = refl
 gate-again (orG is) = refl
 gate-again (leastG k is) = refl
 
-gates-again : (n : ℕ) → n ≤ gatesFrom → (xs before : List Gate) → TreeBelow n xs
+gate-inputs-lower : (g : ℕ) (x : Gate) → GateLower g x → InputsLower g (inputsTo x)
+gate-inputs-lower g (andG is) h = h
+gate-inputs-lower g (orG is) h = h
+gate-inputs-lower g (leastG k is) h = h
+
+gates-again : (n : ℕ) → n ≤ gatesFrom → (xs before : List Gate) → TreeBelow n xs → TreeLower (length before) xs → length before + length xs ≤ limits .gates
     → gatesOf (map kindOf (before ++ xs)) (map leastOf (before ++ xs)) (length before) (map sizeOf xs) (flat codesOf xs) ≡ xs
 unfolding gatesOf
-gates-again n l [] before h = refl
-gates-again n l (x ∷ xs) before h =
+gates-again n l [] before h w few = refl
+gates-again n l (x ∷ xs) before h w few =
     let kind : getD (map kindOf (before ++ x ∷ xs)) (length before) 0 ≡ kindOf x
     = ap (λ m. getD m (length before) 0) (map-append kindOf before (x ∷ xs)) ∙ getD-at (map kindOf before) (kindOf x) (map kindOf xs) 0 (length before) (map-length kindOf before) in
     let least : getD (map leastOf (before ++ x ∷ xs)) (length before) 0 ≡ leastOf x
     = ap (λ m. getD m (length before) 0) (map-append leastOf before (x ∷ xs)) ∙ getD-at (map leastOf before) (leastOf x) (map leastOf xs) 0 (length before) (map-length leastOf before) in
     let mine : map inputOf (take (sizeOf x) (codesOf x ++ flat codesOf xs)) ≡ inputsTo x
-    = ap (map inputOf) (take-at (codesOf x) (flat codesOf xs) (sizeOf x) (codes-long x)) ∙ inputs-again n l (inputsTo x) (gate-inputs-below n x (h .0)) in
+    = ap (map inputOf) (take-at (codesOf x) (flat codesOf xs) (sizeOf x) (codes-long x)) ∙ inputs-again n (length before) l (omega arith) (inputsTo x) (gate-inputs-below n x (h .0)) (gate-inputs-lower (length before) x (w .0)) in
     let rest : drop (sizeOf x) (codesOf x ++ flat codesOf xs) ≡ flat codesOf xs = drop-at (codesOf x) (flat codesOf xs) (sizeOf x) (codes-long x) in
     let longer : before ++ x ∷ xs ≡ _▷_ before x ++ xs = sym (append-assoc before (x ∷ []) xs) in
     let first : gateOf (getD (map kindOf (before ++ x ∷ xs)) (length before) 0) (getD (map leastOf (before ++ x ∷ xs)) (length before) 0) (map inputOf (take (sizeOf x) (codesOf x ++ flat codesOf xs))) ≡ x
     = rw (kind, least, mine) (gate-again x) in
     let others : gatesOf (map kindOf (before ++ x ∷ xs)) (map leastOf (before ++ x ∷ xs)) (length before + 1) (map sizeOf xs) (drop (sizeOf x) (codesOf x ++ flat codesOf xs)) ≡ xs
-    = rw (rest, longer, ← length-▷ before x) (gates-again n l xs (_▷_ before x) (h .1)) in
+    = rw (rest, longer, ← length-▷ before x) (gates-again n l xs (_▷_ before x) (h .1) (subst (λ k. TreeLower k xs) (sym (length-▷ before x)) (w .1)) (omega (arith, length-▷ before x))) in
     λ j. first j ∷ others j
 
 chances-again : (cs : List ℕ) → map (λ (e : Event). e .chance) (map eventOf cs) ≡ cs
 chances-again [] = refl
 chances-again (c ∷ cs) = ap (λ m. c ∷ m) (chances-again cs)
 
-pub tree-again : (t : Tree) {n : ℕ} → n ≤ gatesFrom → TreeBelow n (t .gates) → treeOf (bookOf t) ≡ t
+pub tree-again : (t : Tree) {n : ℕ} → n ≤ gatesFrom → length (t .gates) ≤ limits .gates → TreeBelow n (t .gates) → TreeLower 0 (t .gates) → treeOf (bookOf t) ≡ t
 unfolding treeOf bookOf
-tree-again t {n} l h j = record { chances = chances-again (t .chances) j; gates = gates-again n l (t .gates) [] h j }
+tree-again t {n} l few h w j = record { chances = chances-again (t .chances) j; gates = gates-again n l (t .gates) [] h w (omega arith) j }
 
 -- ---- the rules of the tree, kept by what lies in memory
 
@@ -130,11 +140,6 @@ below-at : (n : ℕ) (xs : List Gate) (g : ℕ) (d : Gate) → TreeBelow n xs �
 below-at n [] g d h l = absurd (omega arith)
 below-at n (x ∷ xs) zero d h l = gate-inputs-below n x (h .0)
 below-at n (x ∷ xs) (suc g) d h l = below-at n xs g d (h .1) (omega arith)
-
-gate-inputs-lower : (g : ℕ) (x : Gate) → GateLower g x → InputsLower g (inputsTo x)
-gate-inputs-lower g (andG is) h = h
-gate-inputs-lower g (orG is) h = h
-gate-inputs-lower g (leastG k is) h = h
 
 lower-at : (from : ℕ) (xs : List Gate) (g : ℕ) (d : Gate) → TreeLower from xs → g < length xs → InputsLower (from + g) (inputsTo (getD xs g d))
 lower-at from [] g d h l = absurd (omega arith)
@@ -144,6 +149,7 @@ lower-at from (x ∷ xs) (suc g) d h l = let q : from + suc g ≡ from + 1 + g =
 input-fits : (n g : ℕ) → n ≤ gatesFrom → (i : Input) → InputBelow n i → InputLower g i → Fits n g (codeOf i)
 input-fits n g l (event e) b h = record { below = omega arith; event = λ _. b }
 input-fits n g l (gate k) b h = record { below = omega arith; event = λ q. absurd (omega arith) }
+input-fits n g l (forced e c) b h = absurd h
 
 inputs-fit : (n g : ℕ) → n ≤ gatesFrom → (is : List Input) → InputsBelow n is → InputsLower g is → (i : ℕ) → i < length is → Fits n g (getD (map codeOf is) i 0)
 inputs-fit n g l [] b h i k = absurd (omega arith)
@@ -198,7 +204,7 @@ module _ (t : Tree) (h : LawfulTree limits t) where
   distinct-at g l =
       let is : List Input = inputsTo (getD xs g none) in
       ap (λ cs. length (distinctCodes cs)) (codes-of xs g none l)
-      ∙ ap length (distinct-codes (events t) few is (below-at (events t) xs g none (h .below) l))
+      ∙ ap length (distinct-codes (events t) few (0 + g) is (below-at (events t) xs g none (h .below) l) (lower-at 0 xs g none (h .lower) l))
       ∙ map-length codeOf (distinctInputs is)
 
   pub tree-lawful : Lawful limits (bookOf t)

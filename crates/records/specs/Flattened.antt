@@ -1,14 +1,14 @@
 -- A TREE OF THE PAPER LAID OUT as memory holds it; and the rules of a tree on the tree itself.
 -- Assumes nothing.
 use mathlib.Core.Path.{_≡_}
-use mathlib.Core.Bool.{false}
+use mathlib.Core.Bool.{true, false}
 use mathlib.Core.List.{List, [], _∷_, map}
 use Prim.Native.Nat.{ℕ, _+_, _≤_, _<_}
 use lib.ListN.{length}
 use Rattle.paper.specs.Limits.{Limits}
 use Rattle.paper.specs.Lists.{In, flat}
-use Rattle.paper.specs.Trees.{Input, event, gate, Gate, andG, orG, leastG, Tree, events, TreeBelow}
-use Rattle.paper.specs.Flat.{gatesFrom}
+use Rattle.paper.specs.Trees.{Input, event, gate, forced, Gate, andG, orG, leastG, Tree, events, TreeBelow}
+use Rattle.paper.specs.Flat.{gatesFrom, failedFrom, soundFrom}
 use Rattle.paper.specs.Importing.{inputsTo, broken}
 use Rattle.records.specs.Judge.{Book}
 use Rattle.records.specs.Trees.{TreeLower}
@@ -30,6 +30,8 @@ sizeOf x = length (inputsTo x)
 abbrev pub codeOf : Input → ℕ
 codeOf (event e) = e
 codeOf (gate g) = gatesFrom + g
+codeOf (forced e true) = failedFrom + e
+codeOf (forced e false) = soundFrom + e
 
 abbrev pub codesOf : Gate → List ℕ
 codesOf x = map codeOf (inputsTo x)

@@ -6,7 +6,7 @@ use mathlib.Core.List.{List, [], _∷_, map}
 use lib.ListN.{length, getD, take}
 use Rattle.paper.specs.Limits.{Limits, billion}
 use Rattle.paper.specs.Lists.{sum}
-use Rattle.paper.specs.Trees.{Input, event, gate, Gate, andG, orG, leastG, Tree}
+use Rattle.paper.specs.Trees.{Input, event, gate, forced, Gate, andG, orG, leastG, Tree}
 use Rattle.paper.specs.Flat.{gatesFrom, gatesOf}
 use Rattle.rules.specs.Rules.{Fits}
 use Rattle.records.specs.Uses.{among}
@@ -51,10 +51,11 @@ pub record Lawful (L : Limits) (b : Book) : Type 0 where
   pub eventsUsed : (e : ℕ) → e < length (b .events) → among e (b .inputs) ≡ true
   pub gatesUsed : (g : ℕ) → g + 1 < length (b .sizes) → among (gatesFrom + g) (b .inputs) ≡ true
 
--- each gate's gate inputs have lower numbers, from gate g on
+-- each gate's inputs are events and gates of lower numbers, from gate g on: a tree as it is read has no forced event
 abbrev pub InputLower : ℕ → Input → Type 0
 InputLower g (event e) = Unit {0}
 InputLower g (gate i) = i < g
+InputLower g (forced e b) = ⊥
 
 abbrev pub InputsLower : ℕ → List Input → Type 0
 InputsLower g [] = Unit {0}

@@ -13,7 +13,7 @@ use borrow.Author.Tests.{ltb-true, ltb-false, eqb-false}
 use Rattle.paper.specs.Limits.{limits}
 use Rattle.paper.specs.Lists.{sum}
 use Rattle.paper.specs.Trees.{Input, event, Gate, events, InputBelow, InputsBelow, GateBelow, TreeBelow}
-use Rattle.paper.specs.Flat.{gatesFrom, inputOf, gateOf, gatesOf}
+use Rattle.paper.specs.Flat.{gatesFrom, failedFrom, inputOf, gateOf, gatesOf}
 use Rattle.rules.specs.Format.{eventLength}
 use Rattle.records.specs.Uses.{among, lowestUnused, unusedOf}
 use Rattle.rules.specs.Rules.{wrongK, Fits}
@@ -105,12 +105,14 @@ least-few {b} l g h q = omega (arith, l .leasts g h q .1, distinct-few (b .sizes
 -- ---- as the paper has it
 
 -- n events, and a gate numbered g
-module _ (n g : ℕ) where
+module _ (n g : ℕ) (low : g ≤ limits .gates) where
   input-below : (code : ℕ) → Fits n g code → InputBelow n (inputOf code) × InputLower g (inputOf code)
   input-below code f =
       if-elim (λ (x : Input). InputBelow n x × InputLower g x) (ltb code gatesFrom)
       (λ e. (f .event (ltb-true code gatesFrom e), tt))
-      (λ e. (tt, omega (arith, ltb-false code gatesFrom e, f .below)))
+      (λ e. if-elim (λ (x : Input). InputBelow n x × InputLower g x) (ltb code failedFrom)
+      (λ _. (tt, omega (arith, ltb-false code gatesFrom e, f .below)))
+      (λ k. absurd (omega (arith, ltb-false code failedFrom k, f .below))))
 
   inputs-below : (codes : List ℕ) → ((i : ℕ) → i < length codes → Fits n g (getD codes i 0)) → InputsBelow n (map inputOf codes) × InputsLower g (map inputOf codes)
   inputs-below [] f = (tt, tt)
@@ -123,12 +125,12 @@ module _ (n g : ℕ) where
   gate-below kind k is f =
       if-elim (λ (x : Gate). GateBelow n x × GateLower g x) (eqb kind 2) (λ _. f) (λ _. if-elim (λ (x : Gate). GateBelow n x × GateLower g x) (eqb kind 3) (λ _. f) (λ _. f))
 
-gates-below : (n : ℕ) (kinds leasts : List ℕ) (g : ℕ) (sizes inputs : List ℕ)
+gates-below : (n : ℕ) (kinds leasts : List ℕ) (g : ℕ) (sizes inputs : List ℕ) → g + length sizes ≤ limits .gates
     → ((x : ℕ) → x < length sizes → (i : ℕ) → i < getD sizes x 0 → Fits n (g + x) (getD inputs (sum (take x sizes) + i) 0))
     → TreeBelow n (gatesOf kinds leasts g sizes inputs) × TreeLower g (gatesOf kinds leasts g sizes inputs)
 unfolding gatesOf
-gates-below n kinds leasts g [] inputs f = (tt, tt)
-gates-below n kinds leasts g (m ∷ sizes) inputs f =
+gates-below n kinds leasts g [] inputs few f = (tt, tt)
+gates-below n kinds leasts g (m ∷ sizes) inputs few f =
     let mine : (i : ℕ) → i < length (take m inputs) → Fits n g (getD (take m inputs) i 0) = λ i h.
     let low : i < m = omega (arith, length-take m inputs) in
     let at : 0 + i ≡ i = omega arith in
@@ -138,15 +140,15 @@ gates-below n kinds leasts g (m ∷ sizes) inputs f =
     let at : m + sum (take x sizes) + i ≡ m + (sum (take x sizes) + i) = omega arith in
     let own : g + suc x ≡ g + 1 + x = omega arith in
     rw (getD-drop m inputs (sum (take x sizes) + i) 0) (rw (own, at) at (f (suc x) (omega arith) i l)) in
-    let (a, b) = gate-below n g (getD kinds g 0) (getD leasts g 0) (map inputOf (take m inputs)) (inputs-below n g (take m inputs) mine) in
-    let (x, y) = gates-below n kinds leasts (g + 1) sizes (drop m inputs) rest in
+    let (a, b) = gate-below n g (omega arith) (getD kinds g 0) (getD leasts g 0) (map inputOf (take m inputs)) (inputs-below n g (omega arith) (take m inputs) mine) in
+    let (x, y) = gates-below n kinds leasts (g + 1) sizes (drop m inputs) (omega arith) rest in
     ((a, x), (b, y))
 
 -- a tree that was read names events below the number of its events, and each gate only lower gates
 pub tree-below : {b : Book} → Lawful limits b → TreeBelow (length (b .events)) (treeOf b .gates) × TreeLower 0 (treeOf b .gates)
 unfolding treeOf
 tree-below {b} v =
-    gates-below (length (b .events)) (b .kinds) (b .leasts) 0 (b .sizes) (b .inputs)
+    gates-below (length (b .events)) (b .kinds) (b .leasts) 0 (b .sizes) (b .inputs) (omega (arith, v .fewGates))
     (λ x h i l. let own : 0 + x ≡ x = omega arith in rw own (v .inputs x h i l))
 
 pub tree-events : (b : Book) → events (treeOf b) ≡ length (b .events)

@@ -3,8 +3,8 @@
 use crate::cut_diagram::CutDiagram;
 use crate::judge::{read, refuse, Refusal};
 use crate::lent::{Lent, Sort, MOST_NUMBERS};
-use crate::robdd::{Counted, Full, Robdd};
-use crate::tree::{distinct, Tree, MOST_GATES};
+use crate::robdd::{Full, Robdd, Steps};
+use crate::tree::{Tree, MOST_GATES};
 
 /// The lengths of what is lent to an analysis, in numbers.
 #[derive(Clone, Copy, Debug)]
@@ -34,7 +34,7 @@ impl Lengths {
         Lengths { node_table: 3 * nodes, cut_table: 3 * cuts, ..Lengths::AMPLE }
     }
 
-    fn keep_rules(&self, tree: &Tree) -> bool {
+    pub fn keep_rules(&self, tree: &Tree) -> bool {
         let table_fits = |length: usize| length % 3 == 0 && length <= MOST_NUMBERS;
         table_fits(self.node_table)
             && table_fits(self.cut_table)
@@ -53,16 +53,15 @@ pub struct Analysis {
 }
 
 pub fn analyse(bytes: &[u8], lengths: Lengths) -> Result<Analysis, Refusal> {
-    analyse_over(bytes, lengths, &|_, inputs| distinct(inputs))
+    analyse_tree(read(bytes)?, lengths, &Steps::default())
 }
 
-/// Wrong programs count other inputs of an at-least gate than the distinct ones.
-pub fn analyse_over(bytes: &[u8], lengths: Lengths, counted: &Counted) -> Result<Analysis, Refusal> {
-    let tree = read(bytes)?;
+/// A tree that was read: 9, 10, 11, or done.
+pub fn analyse_tree(tree: Tree, lengths: Lengths, steps: &Steps) -> Result<Analysis, Refusal> {
     if !lengths.keep_rules(&tree) {
         return refuse(9, 0);
     }
-    let robdd = match Robdd::build_over(&tree, lengths.node_table / 3, counted) {
+    let robdd = match Robdd::build_by(&tree, lengths.node_table / 3, steps) {
         Ok(robdd) => robdd,
         Err(gate) => return refuse(10, gate as u64),
     };

@@ -1,6 +1,7 @@
 //! Functions by truth tables, straight from the definitions. For small trees only.
 
 use crate::big::Big;
+use crate::settings::State;
 use crate::tree::*;
 use std::collections::HashSet;
 
@@ -18,8 +19,14 @@ pub fn is_constant(f: &Function) -> bool {
     f.iter().all(|&value| value == f[0])
 }
 
-fn event_function(event: u32, events: usize) -> Function {
-    (0..1usize << events).map(|set| set >> event & 1 == 1).collect()
+/// A forced event is a constant.
+fn event_function(event: u32, events: usize, state: State) -> Function {
+    let fails = |set: usize| match state {
+        State::Free => set >> event & 1 == 1,
+        State::Failed => true,
+        State::Sound => false,
+    };
+    (0..1usize << events).map(fails).collect()
 }
 
 fn both(f: &Function, g: &Function) -> Function {
@@ -51,6 +58,11 @@ pub fn fixings(f: &Function, events: usize) -> HashSet<Function> {
 }
 
 pub fn functions(tree: &Tree) -> Functions {
+    functions_in(tree, &vec![State::Free; tree.events()])
+}
+
+/// The same with some events forced.
+pub fn functions_in(tree: &Tree, states: &[State]) -> Functions {
     let events = tree.events();
     let mut of_gates: Vec<Function> = Vec::new();
     let mut counted: HashSet<Function> = HashSet::new();
@@ -63,8 +75,9 @@ pub fn functions(tree: &Tree) -> Functions {
         for input in if gate.kind == AT_LEAST { distinct(&inputs) } else { inputs } {
             operands.push(match input {
                 Input::Event(event) => {
-                    steps.push(event_function(event, events));
-                    event_function(event, events)
+                    let function = event_function(event, events, states[event as usize]);
+                    steps.push(function.clone());
+                    function
                 }
                 Input::Gate(number) => of_gates[number as usize].clone(),
             });

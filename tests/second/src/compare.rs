@@ -1,11 +1,12 @@
 //! One seeded input after another: a library's answers and its lent memory against the second program.
 
-use crate::analysis::{analyse, Analysis, Lengths};
+use crate::analysis::{Analysis, Lengths};
 use crate::compare_added::{compare_added_list, meet_added, meet_refusal};
 use crate::compare_changes::compare_pairs;
 use crate::compare_equations::{compare_texts, compare_trees};
 use crate::compare_lent::{compare_bracket, compare_list};
 use crate::compare_reports::compare_report;
+use crate::compare_seasons::{compare_season, meet_season};
 use crate::compare_sites::{compare_forms, compare_moves};
 use crate::compare_sizes::{compare_folders, compare_sizes};
 use crate::damage::{damaged, NUMBERS};
@@ -18,6 +19,7 @@ use crate::library::*;
 use crate::memory::{dirty, lengths, Memory, Need, MOST_NODES};
 use crate::random::Random;
 use crate::renumbering::renumbering;
+use crate::settings::{analyse_when, chances_under, Season};
 use crate::tally::{hex, Tally};
 use crate::tree::{distinct, Input, Tree, AT_LEAST, MOST_GATES};
 use crate::unlawful::tree_in_memory;
@@ -34,6 +36,7 @@ pub fn compare_input(library: &dyn Library, seed: u64, tally: &mut Tally) {
             compare_reading(library, &bytes, random, tally);
             if random.once_in(4) {
                 compare_analysis(library, &bytes, random, tally);
+                compare_season(library, &bytes, random, tally);
             }
         }
         4 => {
@@ -77,6 +80,9 @@ fn compare_tree(library: &dyn Library, tree: &Tree, random: &mut Random, tally: 
     compare_analysis(library, &bytes, random, tally);
     if random.once_in(8) {
         compare_forms(library, &tree, random, tally);
+    }
+    if random.once_in(3) {
+        compare_season(library, &bytes, random, tally);
     }
 }
 
@@ -173,7 +179,6 @@ pub fn compare_analysis(library: &dyn Library, bytes: &[u8], random: &mut Random
     compare_analysis_in(library, bytes, lengths, work_lengths, random, tally);
 }
 
-/// An analysis in memory of these lengths, dirty when it is lent; then its tables lent to the other calls.
 pub fn compare_analysis_in(
     library: &dyn Library,
     bytes: &[u8],
@@ -182,12 +187,33 @@ pub fn compare_analysis_in(
     random: &mut Random,
     tally: &mut Tally,
 ) {
-    let expected = analyse(bytes, lengths);
-    meet_analysis(&expected, bytes, lengths, tally);
+    compare_analysis_when(library, None, bytes, lengths, work_lengths, random, tally);
+}
+
+/// An analysis, in a season or in none, in memory of these lengths, dirty when it is lent; then its tables lent to the other calls.
+pub fn compare_analysis_when(
+    library: &dyn Library,
+    season: Option<Season>,
+    bytes: &[u8],
+    lengths: Lengths,
+    work_lengths: [usize; 4],
+    random: &mut Random,
+    tally: &mut Tally,
+) {
+    let expected = analyse_when(season, bytes, lengths);
+    match season {
+        Some(season) => meet_season(&expected, bytes, season, tally),
+        None => meet_analysis(&expected, bytes, lengths, tally),
+    }
     let mut memory = Memory::dirty(lengths, work_lengths, random);
     let mut added = dirty(random, lengths.added_list);
-    tally.note(|| format!("{} lengths {lengths:?} work areas {work_lengths:?}", hex(bytes)));
-    let got = library.analyse(bytes, memory.lend(), added.lend());
+    let told =
+        season.map_or(String::new(), |season| format!(" store {} edition {}", hex(season.store), season.edition));
+    tally.note(|| format!("{}{told} lengths {lengths:?} work areas {work_lengths:?}", hex(bytes)));
+    let got = match season {
+        Some(season) => library.analyse_season(bytes, season, memory.lend(), added.lend()),
+        None => library.analyse(bytes, memory.lend(), added.lend()),
+    };
     no_fault(library, tally);
     let all = [&memory.all()[..], &[&added]].concat();
     tally.holds("guards of an analysis", all.iter().all(|area| area.guards_stand()));
@@ -199,7 +225,7 @@ pub fn compare_analysis_in(
             if refusal.leaves_zero() {
                 tally.holds("10 and 11 leave zero", all.iter().all(|area| area.all(0)));
             } else {
-                tally.holds("1 to 9 and 21 write nothing", all.iter().all(|area| area.unchanged()));
+                tally.holds("every other refusal writes nothing", all.iter().all(|area| area.unchanged()));
             }
         }
         Ok(done) => {
@@ -212,7 +238,9 @@ pub fn compare_analysis_in(
             compare_tables(&done, &got, &memory, tally);
             compare_added_list(&done, &got, &added, tally);
             let tables = (memory.nodes.now(), memory.cuts.now());
-            compare_uses(library, &done, &got, tables, random, tally);
+            let own = &done.tree.chances;
+            let chances = season.map_or(Ok(own.clone()), |season| chances_under(season, own)).expect("it is accepted");
+            compare_uses(library, &done, &chances, &got, tables, random, tally);
         }
     }
 }
@@ -273,6 +301,7 @@ fn compare_tables(done: &Analysis, got: &AnalyseAnswer, memory: &Memory, tally: 
 fn compare_uses(
     library: &dyn Library,
     done: &Analysis,
+    chances: &[u32],
     got: &AnalyseAnswer,
     (nodes, cuts): (&[u32], &[u32]),
     random: &mut Random,
@@ -291,11 +320,11 @@ fn compare_uses(
     tally.holds("built diagrams are diagrams", function.is_diagram() && family.is_diagram());
     compare_list(library, &family, random, tally);
     compare_sizes(library, &family, random, tally);
-    compare_report(library, &family, Some(&done.tree.chances), random, tally);
-    compare_bracket(library, &function, Some(&done.tree.chances), random, tally);
+    compare_report(library, &family, Some(chances), random, tally);
+    compare_bracket(library, &function, Some(chances), random, tally);
     if random.once_in(8) {
         // Each taken for the other kind: answered for what it denotes, if it keeps that kind's rules.
         compare_list(library, &Lent { sort: Sort::Cuts, ..function }, random, tally);
-        compare_bracket(library, &Lent { sort: Sort::Function, ..family }, Some(&done.tree.chances), random, tally);
+        compare_bracket(library, &Lent { sort: Sort::Function, ..family }, Some(chances), random, tally);
     }
 }

@@ -1,4 +1,4 @@
-//! The fixed inputs of every run: requests 3, 6, 7, 8 and 9 case by case, trees of known numbers at exact capacities, the longest bytes, the limits of lengths.
+//! The fixed inputs of every run: requests 3, 6, 7, 8, 9 and 10 case by case, trees of known numbers at exact capacities, the longest bytes, the limits of lengths.
 
 use crate::analysis::{analyse, Lengths};
 use crate::city::{self, city};
@@ -8,6 +8,7 @@ use crate::compare_changes::{case_1, compare_listings};
 use crate::compare_equations::{compare_export, compare_import};
 use crate::compare_lent::one_listing;
 use crate::compare_reports::{compare_longest_cuts, compare_named_reports, compare_reviews};
+use crate::compare_seasons::{compare_named_season, compare_seasons};
 use crate::compare_sites::compare_sites;
 use crate::compare_sizes::compare_figures;
 use crate::compare_wide::compare_wide;
@@ -19,6 +20,7 @@ use crate::lent::{Lent, Sort, MOST_NUMBERS};
 use crate::library::*;
 use crate::metropolis::{self, metropolis};
 use crate::random::Random;
+use crate::settings::State;
 use crate::tally::Tally;
 use crate::texts::{chain, upside_down, wide};
 use crate::tree::*;
@@ -33,6 +35,7 @@ pub fn compare_large(library: &dyn Library, tally: &mut Tally) {
     compare_sites(library, random, tally);
     compare_reviews(library, random, tally);
     compare_longest_cuts(library, random, tally);
+    compare_seasons(library, random, tally);
     compare_named(library, "European 1", &european_1(), random, tally);
     compare_named(library, "a small city", &city(city::SMALL), random, tally);
     compare_named(library, "a middle city", &city(city::MIDDLE), random, tally);
@@ -41,6 +44,10 @@ pub fn compare_large(library: &dyn Library, tally: &mut Tally) {
     compare_named(library, "the metropolis", &metropolis(), random, tally);
     let sites = sites(random, metropolis().events());
     compare_named(library, "the metropolis with sites", &metropolis().with_sites(&sites), random, tally);
+    compare_named_season(library, "European 1 in a season", &european_1(), State::Sound, random, tally);
+    compare_named_season(library, "European 1 in a bad season", &european_1(), State::Failed, random, tally);
+    compare_named_season(library, "the metropolis in a season", &metropolis(), State::Sound, random, tally);
+    compare_named_season(library, "the metropolis in a bad season", &metropolis(), State::Failed, random, tally);
     compare_figures(library, random, tally);
     compare_longest_bytes(library, random, tally);
     compare_longest_tables(library, random, tally);

@@ -7,6 +7,7 @@ use crate::lent::Lent;
 use crate::library::*;
 use crate::report::REPORT_AREAS;
 use crate::sets::{Set, WORDS};
+use crate::settings::Season;
 use crate::sizes::COUNT_AREAS;
 use crate::tree::Tree;
 use std::cell::{Cell, RefCell};
@@ -28,6 +29,8 @@ const COMPARE: u64 = 12;
 const TO_SITES: u64 = 13;
 const FROM_SITES: u64 = 14;
 const REPORT: u64 = 15;
+const ANALYSE_SEASON: u64 = 16;
+const CHANCES_UNDER: u64 = 17;
 
 /// What the driver says of a call when every guard and every constant area stands.
 const ALL_STANDS: u64 = 3;
@@ -188,6 +191,16 @@ impl Driver {
         WriteAnswer { number: small(number), place, used }
     }
 
+    /// A call that is lent the memory of an analysis, behind what the request says.
+    fn analysed(&self, request: Request, areas: Areas, added: &mut [u32]) -> AnalyseAnswer {
+        let [nodes, cuts, gates, behind @ ..] = areas.all();
+        let mut all: Vec<&mut [u32]> = [nodes, cuts, gates, added].into_iter().chain(behind).collect();
+        let request = all.iter().fold(request, |request, area| request.numbers(area));
+        let mut written: Vec<Area> = all.iter_mut().map(|area| Area::Numbers(area)).collect();
+        let [number, place, nodes, cut_nodes, root, cut_root] = self.ask(request, &mut written);
+        AnalyseAnswer { number: small(number), place, nodes, cut_nodes, root: small(root), cut_root: small(cut_root) }
+    }
+
     /// A call on two listings, which writes its answer alone.
     fn of_listings<const WORDS: usize>(&self, call: u64, yesterday: &[u8], today: &[u8]) -> [u64; WORDS] {
         self.ask(Request::of(call).bytes(yesterday).bytes(today), &mut [])
@@ -303,12 +316,18 @@ impl Library for Driver {
     }
 
     fn analyse(&self, bytes: &[u8], areas: Areas, added: &mut [u32]) -> AnalyseAnswer {
-        let [nodes, cuts, gates, behind @ ..] = areas.all();
-        let mut all: Vec<&mut [u32]> = [nodes, cuts, gates, added].into_iter().chain(behind).collect();
-        let request = all.iter().fold(Request::of(ANALYSE).bytes(bytes), |request, area| request.numbers(area));
-        let mut written: Vec<Area> = all.iter_mut().map(|area| Area::Numbers(area)).collect();
-        let [number, place, nodes, cut_nodes, root, cut_root] = self.ask(request, &mut written);
-        AnalyseAnswer { number: small(number), place, nodes, cut_nodes, root: small(root), cut_root: small(cut_root) }
+        self.analysed(Request::of(ANALYSE).bytes(bytes), areas, added)
+    }
+
+    fn analyse_season(&self, bytes: &[u8], season: Season, areas: Areas, added: &mut [u32]) -> AnalyseAnswer {
+        let request = Request::of(ANALYSE_SEASON).bytes(bytes).bytes(season.store).number(season.edition as u64);
+        self.analysed(request, areas, added)
+    }
+
+    fn chances_under(&self, season: Season, chances: &mut [u32]) -> SettingsAnswer {
+        let request = Request::of(CHANCES_UNDER).bytes(season.store).number(season.edition as u64).numbers(chances);
+        let [number, place] = self.ask(request, &mut [Area::Numbers(chances)]);
+        SettingsAnswer { number: small(number), place }
     }
 
     fn list(&self, diagram: &Lent, after: Option<Set>, room: &mut [u8]) -> ListAnswer {

@@ -6,6 +6,7 @@ use crate::equations::LISTS;
 use crate::lent::Lent;
 use crate::report::REPORT_AREAS;
 use crate::sets::Set;
+use crate::settings::Season;
 use crate::sizes::COUNT_AREAS;
 use crate::tree::Tree;
 
@@ -74,6 +75,13 @@ pub struct FolderAnswer {
     pub number: u32,
     pub place: u64,
     pub tree: u64,
+}
+
+/// What is said of a store of settings.
+#[derive(Clone, Copy, Debug, PartialEq, Eq)]
+pub struct SettingsAnswer {
+    pub number: u32,
+    pub place: u64,
 }
 
 /// The edition beside what a listing call answers.
@@ -149,6 +157,10 @@ pub trait Library {
     fn from_sites(&self, bytes: &[u8], room: &mut [u8]) -> WriteAnswer;
     /// `added` is the list of the nodes that each gate added.
     fn analyse(&self, bytes: &[u8], areas: Areas, added: &mut [u32]) -> AnalyseAnswer;
+    /// The same in a season.
+    fn analyse_season(&self, bytes: &[u8], season: Season, areas: Areas, added: &mut [u32]) -> AnalyseAnswer;
+    /// The chances of all events of a tree become those of a season.
+    fn chances_under(&self, season: Season, chances: &mut [u32]) -> SettingsAnswer;
     /// `None` is "from the beginning".
     fn list(&self, diagram: &Lent, after: Option<Set>, room: &mut [u8]) -> ListAnswer;
     fn bracket(&self, diagram: &Lent, chances: &[u32], work: [&mut [u32]; 2]) -> BracketAnswer;

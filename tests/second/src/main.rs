@@ -9,12 +9,14 @@ use second::equations::{export, name_at, typed, Import};
 use second::folders::Folder;
 use second::generator::{middle_shape, sites, tree, wide_tree};
 use second::judge::{read, write, Refusal, OLD_READER, READER};
-use second::listing::list;
+use second::listing::{list, Walk};
 use second::moves::{from_sites, to_sites};
 use second::program::{program, report};
 use second::random::Random;
 use second::report::{refusal, reportable_cuts};
+use second::settings::{analyse_season, chances_under, Season, Setting, State};
 use second::sizes::{folder, RefusedFolder};
+use second::stores::store_of;
 use second::tree::Tree;
 use std::io::{self, Read, Write};
 use std::process::exit;
@@ -34,6 +36,8 @@ second from-sites FILE         in the form without
 second at FILE SITE..          in the form with sites, its events at these
 second sizes FILE..            how many cuts of each size the trees have together
 second report FILE EDITION     the cuts that are reportable under an edition of the review rule
+second season FILE STORE EDITION  the cuts and the root's chance under the settings of an edition
+second store SETTING..         a store's bytes: settings as 2:7:failed, edition, event, and free, failed or sound
 second city SIZE               the equations of a city-like tree: small, middle, large, or wide of 900 events
 second random SEED [wide|sited]  the bytes of a seeded tree of middle size, or of 255 to 1,024 events, or with sites
 a FILE of - is the standard input";
@@ -47,6 +51,11 @@ fn main() {
     let out = &mut io::BufWriter::new(io::stdout().lock());
     if words[0] == "city" {
         let _ = city(&words[1], out).and_then(|()| out.flush());
+        return;
+    }
+    if words[0] == "store" {
+        let settings: Vec<Setting> = words[1..].iter().map(|word| setting(word)).collect();
+        let _ = out.write_all(&store_of(&settings)).and_then(|()| out.flush());
         return;
     }
     if words[0] == "random" {
@@ -85,6 +94,7 @@ fn main() {
         "at" => at(&bytes, &words[2..], out),
         "sizes" => by_size(&words[1..], out),
         "report" => reviewed(&bytes, words.get(2).map_or(0, number) as u32, out),
+        "season" if words.len() == 4 => in_season(&bytes, &contents(&words[2]), number(&words[3]) as u16, out),
         other => {
             eprintln!("unknown: {other}\n{USAGE}");
             exit(2);
@@ -264,6 +274,38 @@ fn reviewed(bytes: &[u8], edition: u32, out: &mut dyn Write) -> io::Result<()> {
         writeln!(out, "{}", members.join(" "))?;
     }
     Ok(())
+}
+
+/// A setting as it is typed.
+fn setting(word: &str) -> Setting {
+    let parts: Vec<&str> = word.split(':').collect();
+    let state = match parts[..] {
+        [_, _, "free"] => State::Free,
+        [_, _, "failed"] => State::Failed,
+        [_, _, "sound"] => State::Sound,
+        _ => {
+            eprintln!("no setting: {word}");
+            exit(2);
+        }
+    };
+    let number = |part: &str| part.parse().expect("a number of two bytes");
+    Setting { edition: number(parts[0]), event: number(parts[1]), state }
+}
+
+fn in_season(bytes: &[u8], store: &[u8], edition: u16, out: &mut dyn Write) -> io::Result<()> {
+    let season = Season { store, edition };
+    let done = match analyse_season(bytes, season, Lengths::AMPLE) {
+        Ok(done) => done,
+        Err(Refusal { number, place }) => return writeln!(out, "refused {number} at {place}"),
+    };
+    writeln!(out, "edition {edition}\nnodes {}\ncuts", done.robdd.nodes.count())?;
+    for cut in Walk::new(&done.lent_cuts(), None) {
+        let members: Vec<String> = cut.members().iter().map(u32::to_string).collect();
+        writeln!(out, "{}", members.join(" "))?;
+    }
+    let chances = chances_under(season, &done.tree.chances).expect("the store is accepted");
+    let top = bracket(&done.lent_function(), &chances, true);
+    writeln!(out, "top {} {}", top.low, top.high)
 }
 
 fn by_size(files: &[String], out: &mut dyn Write) -> io::Result<()> {

@@ -1,8 +1,9 @@
 //! What is lent to an analysis: lengths around what a tree needs, contents of any kind, guards on both sides.
 
-use crate::analysis::{analyse, Analysis, Lengths};
+use crate::analysis::{Analysis, Lengths};
 use crate::library::*;
 use crate::random::Random;
+use crate::settings::{analyse_when, Season};
 
 /// Larger diagrams are cut off here: their inputs then ask for number 10.
 pub const MOST_NODES: usize = 6_000;
@@ -19,7 +20,12 @@ pub struct Need {
 impl Need {
     /// None where the tree is refused, or too large to be built.
     pub fn of(bytes: &[u8]) -> Option<Need> {
-        let done = analyse(bytes, Lengths::of_capacities(MOST_NODES, MOST_NODES)).ok()?;
+        Need::when(None, bytes)
+    }
+
+    /// The same in a season.
+    pub fn when(season: Option<Season>, bytes: &[u8]) -> Option<Need> {
+        let done = analyse_when(season, bytes, Lengths::of_capacities(MOST_NODES, MOST_NODES)).ok()?;
         let Analysis { tree, robdd, cuts } = done;
         let (nodes, cuts, gates) = (robdd.nodes.count(), cuts.nodes.count(), tree.gates.len());
         Some(Need { nodes, cuts, gates, by_gate: robdd.nodes_by_gate })
@@ -39,7 +45,7 @@ pub fn lengths(library: &dyn Library, need: Need, random: &mut Random) -> (Lengt
     let (mut node_capacity, cut_capacity) = (around(nodes), around(cuts));
     if !by_gate.is_empty() && random.once_in(8) {
         // Just enough for the gates up to one, or a node less.
-        node_capacity = by_gate[random.below(by_gate.len())] - random.below(2);
+        node_capacity = by_gate[random.below(by_gate.len())].saturating_sub(random.below(2));
     }
     let mut bad = |length: usize| match random.below(60) {
         0 => length + 1,

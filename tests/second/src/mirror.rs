@@ -12,6 +12,7 @@ use crate::listing::{list, Listing};
 use crate::moves::{from_sites_into, to_sites_into};
 use crate::report::{report, Report, REPORT_AREAS};
 use crate::sets::Set;
+use crate::settings::{analyse_season, chances_under, Season};
 use crate::sizes::{folder, sizes, RefusedFolder, COUNT_AREAS, SIZES};
 use crate::tree::{Tree, MOST_GATES};
 
@@ -64,6 +65,17 @@ pub fn lay_out_counts(counts: Option<&[u64]>, counting: CountAreas) {
         counting.counts[..counts.len()].copy_from_slice(counts);
     }
     counting.work.into_iter().for_each(|area| area.fill(0));
+}
+
+/// What is answered where chances are changed, or not.
+pub fn lay_out_chances(changed: Result<Vec<u32>, Refusal>, chances: &mut [u32]) -> SettingsAnswer {
+    match changed {
+        Ok(changed) => {
+            chances.copy_from_slice(&changed);
+            SettingsAnswer { number: 0, place: 0 }
+        }
+        Err(Refusal { number, place }) => SettingsAnswer { number, place },
+    }
 }
 
 /// What an analysis leaves and answers, of whichever program.
@@ -158,6 +170,15 @@ impl Library for Mirror {
     fn analyse(&self, bytes: &[u8], areas: Areas, added: &mut [u32]) -> AnalyseAnswer {
         let done = analyse(bytes, Lengths { added_list: added.len(), ..self.lengths(&areas) });
         lay_out_analysis(done, areas, added)
+    }
+
+    fn analyse_season(&self, bytes: &[u8], season: Season, areas: Areas, added: &mut [u32]) -> AnalyseAnswer {
+        let lengths = Lengths { added_list: added.len(), ..self.lengths(&areas) };
+        lay_out_analysis(analyse_season(bytes, season, lengths), areas, added)
+    }
+
+    fn chances_under(&self, season: Season, chances: &mut [u32]) -> SettingsAnswer {
+        lay_out_chances(chances_under(season, chances), chances)
     }
 
     fn list(&self, diagram: &Lent, after: Option<Set>, room: &mut [u8]) -> ListAnswer {

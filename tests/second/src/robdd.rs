@@ -4,6 +4,7 @@
 //! is made twice; so the number of nodes is the number of nodes needed.
 
 use crate::hash::Map;
+use crate::settings::State;
 use crate::tree::*;
 
 pub const FALSE: u32 = 0;
@@ -92,17 +93,36 @@ pub struct Robdd {
     pub nodes_by_gate: Vec<usize>,
 }
 
-/// What an at-least gate counts of its inputs.
-pub type Counted = dyn Fn(&Robdd, &[Input]) -> Vec<Input>;
+/// The inputs that a gate's steps run over.
+pub type Taken<'a> = dyn Fn(&Robdd, &Gate, &[Input]) -> Vec<Input> + 'a;
+
+/// How a tree is built. Wrong programs do something of it otherwise.
+pub struct Steps<'a> {
+    /// Of the events; those behind are free.
+    pub states: &'a [State],
+    pub taken: &'a Taken<'a>,
+    /// Whether a forced event gets a node all the same.
+    pub forced_nodes: bool,
+}
+
+impl Default for Steps<'_> {
+    /// Every event is free. An at-least gate counts each distinct input once.
+    fn default() -> Self {
+        let taken = &|_: &Robdd, gate: &Gate, inputs: &[Input]| match gate.kind {
+            AT_LEAST => distinct(inputs),
+            _ => inputs.to_vec(),
+        };
+        Steps { states: &[], taken, forced_nodes: false }
+    }
+}
 
 impl Robdd {
     /// Refused with the number of the gate that needs more than the capacity.
     pub fn build(tree: &Tree, capacity: usize) -> Result<Robdd, u32> {
-        Robdd::build_over(tree, capacity, &|_, inputs| distinct(inputs))
+        Robdd::build_by(tree, capacity, &Steps::default())
     }
 
-    /// Wrong programs count other inputs than the distinct ones.
-    pub fn build_over(tree: &Tree, capacity: usize, counted: &Counted) -> Result<Robdd, u32> {
+    pub fn build_by(tree: &Tree, capacity: usize, steps: &Steps) -> Result<Robdd, u32> {
         let mut robdd = Robdd {
             nodes: Nodes::new(capacity),
             joined: Map::default(),
@@ -110,8 +130,8 @@ impl Robdd {
             nodes_by_gate: Vec::new(),
         };
         for (number, (gate, inputs)) in tree.gates.iter().zip(tree.inputs_by_gate()).enumerate() {
-            let inputs = if gate.kind == AT_LEAST { counted(&robdd, &inputs) } else { inputs };
-            let node = robdd.gate(gate, &inputs).map_err(|Full| number as u32)?;
+            let inputs = (steps.taken)(&robdd, gate, &inputs);
+            let node = robdd.gate(gate, &inputs, steps).map_err(|Full| number as u32)?;
             robdd.gate_nodes.push(node);
             robdd.nodes_by_gate.push(robdd.nodes.count());
         }
@@ -122,11 +142,11 @@ impl Robdd {
         *self.gate_nodes.last().expect("a tree has a gate")
     }
 
-    fn gate(&mut self, gate: &Gate, inputs: &[Input]) -> Result<u32, Full> {
+    fn gate(&mut self, gate: &Gate, inputs: &[Input], steps: &Steps) -> Result<u32, Full> {
         let mut operands = Vec::new();
         for input in inputs {
             operands.push(match *input {
-                Input::Event(event) => self.nodes.find_or_add(Node { event, failed: TRUE, sound: FALSE })?,
+                Input::Event(event) => self.event(event, steps)?,
                 Input::Gate(gate) => self.gate_nodes[gate as usize],
             });
         }
@@ -134,6 +154,20 @@ impl Robdd {
             AND => self.fold(Join::And, &operands),
             OR => self.fold(Join::Or, &operands),
             _ => self.at_least(gate.k as usize, 0, &operands, &mut Map::default()),
+        }
+    }
+
+    /// A free event is a node, a forced one a constant.
+    fn event(&mut self, event: u32, steps: &Steps) -> Result<u32, Full> {
+        let state = steps.states.get(event as usize).copied().unwrap_or(State::Free);
+        let own = Node { event, failed: TRUE, sound: FALSE };
+        if steps.forced_nodes {
+            self.nodes.find_or_add(own)?;
+        }
+        match state {
+            State::Free => self.nodes.find_or_add(own),
+            State::Failed => Ok(TRUE),
+            State::Sound => Ok(FALSE),
         }
     }
 

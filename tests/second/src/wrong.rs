@@ -1,6 +1,6 @@
 //! Wrong programs: the mirror with one fault each. The comparison must see every one of them.
 
-use crate::analysis::{analyse_over, Lengths};
+use crate::analysis::{analyse_tree, Lengths};
 use crate::changes::{Comparison, Difference, Verdict};
 use crate::cut_diagram::CutDiagram;
 use crate::equations::LISTS;
@@ -9,8 +9,9 @@ use crate::lent::Lent;
 use crate::library::*;
 use crate::mirror::{lay_out_analysis, Mirror};
 use crate::report::REPORT_AREAS;
-use crate::robdd::Robdd;
+use crate::robdd::{Robdd, Steps};
 use crate::sets::Set;
+use crate::settings::Season;
 use crate::sizes::COUNT_AREAS;
 use crate::tree::*;
 use crate::wrong_added::wrong_added;
@@ -18,6 +19,7 @@ use crate::wrong_changes::{wrong_compare, wrong_difference, wrong_side};
 use crate::wrong_equations::{wrong_export, wrong_import};
 use crate::wrong_lent::{wrong_bracket, wrong_list};
 use crate::wrong_report::{is_of_reports, wrong_report};
+use crate::wrong_seasons::{is_of_seasons, wrong_chances, wrong_season};
 use crate::wrong_sites::*;
 use crate::wrong_sizes::{wrong_folder, wrong_sizes};
 use crate::wrong_twins::{counted, wrong_read, wrong_write};
@@ -131,6 +133,72 @@ wrongs! {
     PlaceOfTheLastThatFits,
     TenSaysTheRecord,
     ElevenSaysAGate,
+    // Seasons: the store.
+    TornEndAccepted,
+    TornEndDropped,
+    OtherKindsPass,
+    KindIsDecimal,
+    OtherKindsSkipped,
+    StatesAboveTwoAreSound,
+    StatesByTheLowBits,
+    EditionsMayFall,
+    EditionsMustRise,
+    FallsOfOneEventOnly,
+    FallsBelowTheFirstOnly,
+    EventsNotJudged,
+    EventsUpTo1024,
+    EventsOneTooMany,
+    EventsByTheLowByte,
+    EventsHighByteFirst,
+    EditionsByTheLowByte,
+    EditionsHighByteFirst,
+    ThirteenBeforeTwentyFour,
+    TwentyFourOfAllFirst,
+    LastFaultDecides,
+    AboveNotJudged,
+    AboveEndsTheJudging,
+    ThirteenOfAboveNotJudged,
+    FreeEventsNotJudged,
+    TwentyFourForThirteen,
+    StorePlaceZero,
+    StorePlaceByRecord,
+    StorePlaceOfTheByte,
+    StorePlaceBehindTheTree,
+    StoreBeforeTheTree,
+    StoreBeforeEight,
+    NineBeforeTheStore,
+    EmptyStoreRefused,
+    TwentyFourLeavesZero,
+    // Which record decides.
+    EditionOfItsOwn,
+    BeforeTheEditionOnly,
+    LastOfAllDecides,
+    FirstDecides,
+    FreeDoesNotFree,
+    FreeWins,
+    EveryEditionStartsAnew,
+    StatesSwapped,
+    // The build.
+    ForcedNodesMade,
+    JoinsStopEarly,
+    ForcedDroppedFromAtLeast,
+    ForcedTwinsAreOne,
+    FreeNodesNeeded,
+    AddedOfTheFreeTree,
+    SeasonTenWithoutAGate,
+    SureRootHasNoCut,
+    ConstantRootRefused,
+    ConstantGatesAreZero,
+    // The chances.
+    FailedWithChanceZero,
+    SoundKeepsItsChance,
+    ForcedChancesStay,
+    ChancesAboveOneRefused,
+    ChancesAboveOneCut,
+    TooManyChancesPass,
+    ManyChancesRefused,
+    NineBeforeTheStoreOfChances,
+    ChancesUntilTheFault,
     // Listing.
     FinishedAfterFirstRoom,
     FinishedIfRoomIsLeft,
@@ -410,7 +478,13 @@ impl Library for WrongProgram {
         let mut answer = match counted(self.0) {
             Some(counted) => {
                 let lengths = Lengths { added_list: added.len(), ..Mirror.lengths(&areas) };
-                lay_out_analysis(analyse_over(bytes, lengths, &counted), areas.again(), added)
+                let taken = |robdd: &Robdd, gate: &Gate, inputs: &[Input]| match gate.kind {
+                    AT_LEAST => counted(robdd, inputs),
+                    _ => inputs.to_vec(),
+                };
+                let steps = Steps { taken: &taken, ..Steps::default() };
+                let done = read(bytes).and_then(|tree| analyse_tree(tree, lengths, &steps));
+                lay_out_analysis(done, areas.again(), added)
             }
             None => Mirror.analyse(other.as_deref().unwrap_or(bytes), areas.again(), added),
         };
@@ -440,6 +514,20 @@ impl Library for WrongProgram {
             _ => answer = wrong_added(self.0, bytes, &added_before, areas, added, answer),
         }
         answer
+    }
+
+    fn analyse_season(&self, bytes: &[u8], season: Season, areas: Areas, added: &mut [u32]) -> AnalyseAnswer {
+        match is_of_seasons(self.0) {
+            true => wrong_season(self.0, bytes, season, areas, added),
+            false => Mirror.analyse_season(bytes, season, areas, added),
+        }
+    }
+
+    fn chances_under(&self, season: Season, chances: &mut [u32]) -> SettingsAnswer {
+        match is_of_seasons(self.0) {
+            true => wrong_chances(self.0, season, chances),
+            false => Mirror.chances_under(season, chances),
+        }
     }
 
     fn list(&self, diagram: &Lent, after: Option<Set>, room: &mut [u8]) -> ListAnswer {

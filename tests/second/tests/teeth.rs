@@ -4,6 +4,7 @@ use second::compare::compare_input;
 use second::compare_added::compare_added;
 use second::compare_large::compare_twins;
 use second::compare_reports::compare_reviews;
+use second::compare_seasons::compare_seasons;
 use second::compare_sites::compare_sites;
 use second::compare_wide::compare_wide;
 use second::library::Library;
@@ -12,6 +13,7 @@ use second::random::Random;
 use second::tally::Tally;
 use second::wrong::{Wrong, WrongProgram, ALL};
 use second::wrong_report::is_of_reports;
+use second::wrong_seasons::is_of_seasons;
 
 fn tally(library: &dyn Library, inputs: u64) -> Tally {
     let mut tally = Tally::default();
@@ -35,6 +37,8 @@ fn the_mirror_passes() {
     assert_eq!(numbers("to sites"), [0, 1, 2, 3, 4, 5, 6, 7, 8, 9, 21]);
     assert_eq!(numbers("from sites"), [0, 1, 2, 3, 4, 5, 6, 7, 8, 9, 21, 22]);
     assert_eq!(numbers("analyse"), [0, 1, 2, 3, 4, 5, 6, 7, 8, 9, 10, 11, 21]);
+    assert_eq!(numbers("season"), [0, 1, 2, 3, 4, 5, 6, 7, 8, 9, 10, 11, 13, 21, 24]);
+    assert_eq!(numbers("chances"), [0, 9, 13, 24]);
     assert_eq!(numbers("list"), [0, 12, 13, 14]);
     assert_eq!(numbers("report"), [0, 7, 9, 12, 13, 14, 23]);
     assert_eq!(numbers("bracket"), [0, 7, 9, 12]);
@@ -190,6 +194,14 @@ fn reports_are_told_apart() {
     assert_eq!(own.len(), 50);
     let seen: Vec<Wrong> = own.into_iter().filter(|wrong| !by_seeds.contains(wrong)).collect();
     told_apart(compare_reviews, &seen);
+}
+
+/// Every wrong program about seasons.
+#[test]
+fn seasons_are_told_apart() {
+    let own: Vec<Wrong> = ALL.iter().copied().filter(|&wrong| is_of_seasons(wrong)).collect();
+    assert_eq!(own.len(), 62);
+    told_apart(compare_seasons, &own);
 }
 
 #[test]

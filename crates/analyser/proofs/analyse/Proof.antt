@@ -2,6 +2,7 @@
 use mathlib.Core.Path.{_≡_}
 use native.Mathlib.Omega.{arith}
 use Rattle.analyser.proofs.Outcomes.{reading-refused, reading-done, reading-tried}
+use Rattle.analysis.proofs.Reading.{read-buildable}
 use borrow.Author.Needs.{needs}
 use Rattle.analyser.proofs.analyse.Statement.{statement}
 use Rattle.analyser.proofs.analyse.Tie as tie
@@ -24,7 +25,7 @@ returns c =
 
 analyse-tree-requires : tie.Need-analyse-tree-requires
 analyse-tree-requires c κs =
-    let z : c .before .before .before .before .before .before .before .before .before .before .before .number .result ≡ 0 = omega arith in reading-done _ (c .before .before .before .before .before .before .before .before .before .before .before .before .read .ensures .0) (c .before .before .before .before .before .before .before .before .before .before .before .number .ensures) z
+    let z : c .before .before .before .before .before .before .before .before .before .before .before .number .result ≡ 0 = omega arith in read-buildable (reading-done _ (c .before .before .before .before .before .before .before .before .before .before .before .before .read .ensures .0) (c .before .before .before .before .before .before .before .before .before .before .before .number .ensures) z)
 
 same-length : tie.Need-same-length
 same-length c = search needs

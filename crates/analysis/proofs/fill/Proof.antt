@@ -1,6 +1,6 @@
 -- `filling::fill` meets its contract: what the builders promise comes to 10, 11, or done. Assumes nothing.
 use mathlib.Core.Path.{refl, _∙_}
-use Rattle.analysis.proofs.Reading.{read-arrays, read-is-sound, read-lengths, build-areas, whole-in, over-in}
+use Rattle.analysis.proofs.Reading.{build-lengths, build-areas, whole-in, over-in}
 use Rattle.analysis.proofs.Filling.{nodes-are-full, nodes-do-fit}
 use borrow.Author.Needs.{needs}
 use Rattle.analysis.proofs.fill.Statement.{statement}
@@ -8,7 +8,7 @@ use Rattle.analysis.proofs.fill.Tie as tie
 
 build-tree-requires : tie.Need-build-tree-requires
 build-tree-requires c κs =
-    let s = c .before .before .before .before .before .before .before .before .before .before .before .before .before .before .before in (read-arrays (s .pre .0), (build-areas (s .pre .1), (s .pre .1 .gate-list, s .pre .1 .added-list)))
+    let s = c .before .before .before .before .before .before .before .before .before .before .before .before .before .before .before in (s .pre .0 .arrays, (build-areas (s .pre .1), (s .pre .1 .gate-list, s .pre .1 .added-list)))
 
 enum-known-gate : tie.Need-enum-known-gate
 enum-known-gate c = search needs
@@ -29,9 +29,9 @@ fill-cuts-requires c κs =
     record {
       tree = _;
       ground = record {
-        sound = read-is-sound (s .pre .0);
+        sound = s .pre .0 .sound;
         whole = whole-in (s .args .tree) (rw (c .before .before .before .before .before .before .before .before .before .before .root .given .1) at (c .before .before .before .before .before .before .before .before .before .before .before .before .before .before .before .before .before .before .before .before .before .before .before .before .build-tree .ensures));
-        lengths = read-lengths (s .pre .0) (record { nodes = k .0; cuts = refl; gates = k .1 .1 .1 .1 .0; added = k .1 .1 .1 .1 .1 .0; memo = k .1 .1 .1 .0; heads = k .1 .0; next = k .1 .1 .0; marks = refl; own = refl }) (s .pre .1);
+        lengths = build-lengths (s .pre .0) (record { nodes = k .0; cuts = refl; gates = k .1 .1 .1 .1 .0; added = k .1 .1 .1 .1 .1 .0; memo = k .1 .1 .1 .0; heads = k .1 .0; next = k .1 .1 .0; marks = refl; own = refl }) (s .pre .1);
       };
     }
 
@@ -66,7 +66,7 @@ returns : tie.Need-returns
 returns c =
     let s = c .before .before .before .before .before .before .before .before .before .before .before .before .before .before .before .before .before .before .before .before .before .before .before .before .before .before .before .before .before .before .before .before .before .before .before .before .before .before .before .before .before .before .before .before .before .before .before .before .before .before .before .before .before .before .before .before .before .before .before .before in
     let k = c .before .before .before .before .before .before .before .before .before .before .before .before .before .before .before .before .before .before .before .before .before .before .before .before .before .before .before .before .before .before .before .before .before .before .before .before .before .before .before .before .before .before .before .before .build-tree .kept .1 in
-    nodes-are-full (read-is-sound (s .pre .0)) (c .before .before .before .before .before .before .before .before .before .before .before .before .before .before .before .before .before .before .before .wipe .ensures) (record { nodes = k .0; cuts = refl; gates = k .1 .1 .1 .1 .0; added = k .1 .1 .1 .1 .1 .0; memo = k .1 .1 .1 .0; heads = k .1 .0; next = k .1 .1 .0; marks = refl; own = refl })
+    nodes-are-full (s .pre .0 .sound) (c .before .before .before .before .before .before .before .before .before .before .before .before .before .before .before .before .before .before .before .wipe .ensures) (record { nodes = k .0; cuts = refl; gates = k .1 .1 .1 .1 .0; added = k .1 .1 .1 .1 .1 .0; memo = k .1 .1 .1 .0; heads = k .1 .0; next = k .1 .1 .0; marks = refl; own = refl })
     (over-in (s .args .tree) (rw (c .before .before .before .before .before .before .before .before .before .before .before .before .before .before .before .before .before .before .before .before .before .before .before .before .before .before .before .before .before .before .gate .given .1) at (c .before .before .before .before .before .before .before .before .before .before .before .before .before .before .before .before .before .before .before .before .before .before .before .before .before .before .before .before .before .before .before .before .before .before .before .before .before .before .before .before .before .before .before .before .build-tree .ensures))) (c .refused .ensures)
 
 same-length-10 : tie.Need-same-length-10
@@ -101,8 +101,8 @@ returns-2 c =
     let s = c .before .before .before .before .before .before .before .before .before .before .before .before .before .before .before .before .before .before .before .before .before .before .before .before .before .before .before .before .before .before .before .before .before .before .before .before .before .before .before .before .before .before .before .before .before .before .before .before .before .before .before .before .before .before .before .before .before .before .before in
     let k = c .before .before .before .before .before .before .before .before .before .before .before .before .before .before .before .before .before .before .before .before .before .before .before .before .before .before .before .before .before .before .before .before .before .before .before .before .before .before .before .before .before .before .before .build-tree .kept .1 in
     let w = whole-in (s .args .tree) (rw (c .before .before .before .before .before .before .before .before .before .before .before .before .before .before .before .before .before .before .before .before .before .before .before .before .before .before .before .before .before .root .given .1) at (c .before .before .before .before .before .before .before .before .before .before .before .before .before .before .before .before .before .before .before .before .before .before .before .before .before .before .before .before .before .before .before .before .before .before .before .before .before .before .before .before .before .before .before .build-tree .ensures)) in
-    nodes-do-fit (read-is-sound (s .pre .0)) (record { nodes = k .0; cuts = refl; gates = k .1 .1 .1 .1 .0; added = k .1 .1 .1 .1 .1 .0; memo = k .1 .1 .1 .0; heads = k .1 .0; next = k .1 .1 .0; marks = refl; own = refl }) w
-    (c .before .before .before .before .before .before .before .before .before .before .before .before .before .before .before .before .before .before .fill-cuts .ensures _ (record { sound = read-is-sound (s .pre .0); whole = w; lengths = read-lengths (s .pre .0) (record { nodes = k .0; cuts = refl; gates = k .1 .1 .1 .1 .0; added = k .1 .1 .1 .1 .1 .0; memo = k .1 .1 .1 .0; heads = k .1 .0; next = k .1 .1 .0; marks = refl; own = refl }) (s .pre .1) }))
+    nodes-do-fit (s .pre .0 .sound) (record { nodes = k .0; cuts = refl; gates = k .1 .1 .1 .1 .0; added = k .1 .1 .1 .1 .1 .0; memo = k .1 .1 .1 .0; heads = k .1 .0; next = k .1 .1 .0; marks = refl; own = refl }) w
+    (c .before .before .before .before .before .before .before .before .before .before .before .before .before .before .before .before .before .before .fill-cuts .ensures _ (record { sound = s .pre .0 .sound; whole = w; lengths = build-lengths (s .pre .0) (record { nodes = k .0; cuts = refl; gates = k .1 .1 .1 .1 .0; added = k .1 .1 .1 .1 .1 .0; memo = k .1 .1 .1 .0; heads = k .1 .0; next = k .1 .1 .0; marks = refl; own = refl }) (s .pre .1) }))
 
 pub fill-spec : {M : Type 1} → statement M
 fill-spec =

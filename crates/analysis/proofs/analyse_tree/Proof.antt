@@ -1,10 +1,10 @@
--- `analyser::analyse_tree` meets its contract: 9, or what filling promises. Assumes nothing.
+-- `analysis::analyse_tree` meets its contract: 9, or what filling promises. Assumes nothing.
 use mathlib.Core.Path.{refl}
-use Rattle.analyser.specs.Analysed.{Tried}
-use Rattle.analyser.proofs.Flags.{denied, granted}
+use Rattle.analysis.specs.Filling.{Tried}
+use Rattle.analysis.proofs.Flags.{denied, granted}
 use borrow.Author.Needs.{needs}
-use Rattle.analyser.proofs.analyse_tree.Statement.{statement}
-use Rattle.analyser.proofs.analyse_tree.Tie as tie
+use Rattle.analysis.proofs.analyse_tree.Statement.{statement}
+use Rattle.analysis.proofs.analyse_tree.Tie as tie
 
 lengths-ok-requires : tie.Need-lengths-ok-requires
 lengths-ok-requires c κs = search needs

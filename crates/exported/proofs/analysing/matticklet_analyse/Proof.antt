@@ -1,14 +1,13 @@
--- `exported::matticklet_analyse` meets its contract. Assumes nothing.
-use mathlib.Core.Path.{refl}
+-- `exported::analysing::matticklet_analyse` meets its contract. Assumes nothing.
 use borrow.Author.Needs.{needs}
-use Rattle.exported.proofs.matticklet_analyse.Statement.{statement}
-use Rattle.exported.proofs.matticklet_analyse.Tie as tie
+use Rattle.exported.proofs.analysing.matticklet_analyse.Statement.{statement}
+use Rattle.exported.proofs.analysing.matticklet_analyse.Tie as tie
 
 analyse-requires : tie.Need-analyse-requires
 analyse-requires c κs = search needs
 
-cast-t31 : tie.Need-cast-t31
-cast-t31 c = search needs
+tell-requires : tie.Need-tell-requires
+tell-requires c κs = search needs
 
 same-length : tie.Need-same-length
 same-length c = search needs
@@ -38,14 +37,14 @@ same-length-9 : tie.Need-same-length-9
 same-length-9 c = search needs
 
 returns : tie.Need-returns
-returns c = (c .before .before .before .before .before .before .before .before .before .before .before .before .before .before .before .before .before .before .before .before .analyse .result, (c .before .before .before .before .before .before .before .before .before .before .before .before .before .before .before .before .before .before .before .before .analyse .ensures, refl))
+returns c = (c .before .before .before .before .before .before .before .before .before .before .before .before .before .before .before .before .before .before .before .before .analyse .result, (c .before .before .before .before .before .before .before .before .before .before .before .before .before .before .before .before .before .before .before .before .analyse .ensures, c .tell .ensures))
 
 pub matticklet-analyse-spec : {M : Type 1} → statement M
 matticklet-analyse-spec =
     tie.close
     (tie.spec
     analyse-requires
-    cast-t31
+    tell-requires
     same-length
     same-length-2
     same-length-3

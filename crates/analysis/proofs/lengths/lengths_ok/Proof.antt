@@ -1,10 +1,10 @@
--- `analyser::lengths::lengths_ok` meets its contract: each test says whether one of the rules is kept.
+-- `analysis::lengths::lengths_ok` meets its contract: each test says whether one of the rules is kept.
 -- Assumes nothing.
 use native.Mathlib.Omega.{arith}
 use borrow.Author.Needs.{needs}
-use Rattle.analyser.proofs.Flags.{denied, granted}
-use Rattle.analyser.proofs.lengths.lengths_ok.Statement.{statement}
-use Rattle.analyser.proofs.lengths.lengths_ok.Tie as tie
+use Rattle.analysis.proofs.Flags.{denied, granted}
+use Rattle.analysis.proofs.lengths.lengths_ok.Statement.{statement}
+use Rattle.analysis.proofs.lengths.lengths_ok.Tie as tie
 
 table-ok-requires : tie.Need-table-ok-requires
 table-ok-requires c κs = search needs

@@ -1,0 +1,2 @@
+-- A tree in memory whose forced events are constants.
+pub mod Codes

@@ -1,0 +1,4 @@
+pub mod Judged
+pub mod Editions
+pub mod Reading
+pub mod Chances
