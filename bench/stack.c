@@ -21,7 +21,7 @@ static uint8_t tree[MATTICKLET_TREE_BYTES + 64], text[MATTICKLET_TEXT_BYTES], ro
 static size_t tree_length, text_length, memo_length;
 static uint32_t nodes[3 * CAPACITY], cuts[3 * CAPACITY], gates[MATTICKLET_GATES], added[MATTICKLET_GATES], memo[MEMO];
 static uint32_t heads[AREA], next[AREA], marks[AREA], own[AREA], chances[MATTICKLET_EVENTS];
-static uint64_t counts[MATTICKLET_SIZES], less[AREA], work[AREA], reached[AREA];
+static uint64_t counts[MATTICKLET_SIZES], less[AREA], work[AREA], reached[AREA], below[2 * AREA], ways[2 * AREA];
 static uint8_t kinds[MATTICKLET_GATES], leasts[MATTICKLET_GATES], sizes[MATTICKLET_GATES];
 static uint16_t inputs[MATTICKLET_INPUTS], sites[MATTICKLET_EVENTS];
 static uint32_t lists[11][MATTICKLET_TEXT_BYTES + 1];
@@ -31,6 +31,10 @@ static struct matticklet_move moved, back;
 static struct matticklet_analysis analysis;
 static struct matticklet_settings settings;
 static struct matticklet_listing listing;
+static struct matticklet_missed missed;
+static struct matticklet_held held;
+static struct matticklet_checked checked;
+static struct matticklet_proposal proposal;
 static struct matticklet_ends ends;
 static struct matticklet_report reported;
 static struct matticklet_tally tally;
@@ -99,6 +103,24 @@ static void report(void)
     matticklet_report(2, cuts, 3 * CAPACITY, reading.events, analysis.cut_nodes, analysis.cut_root, chances, reading.events, true, none, room, ROOM,
                       heads, AREA, next, AREA, &reported);
 }
+static const uint64_t no_event[MATTICKLET_SET_WORDS];
+static void first_missing(void)
+{
+    matticklet_first_missing(cuts, 3 * CAPACITY, reading.events, analysis.cut_nodes, analysis.cut_root, no_event, heads, AREA, &missed);
+}
+static void holding(void)
+{
+    matticklet_holding(cuts, 3 * CAPACITY, reading.events, analysis.cut_nodes, analysis.cut_root, no_event, counts, MATTICKLET_SIZES, below, 2 * AREA, ways,
+                       2 * AREA, &held);
+}
+static void plan(void)
+{
+    matticklet_plan(cuts, 3 * CAPACITY, reading.events, analysis.cut_nodes, analysis.cut_root, below, 2 * AREA, ways, 2 * AREA, &proposal);
+}
+static void check(void)
+{
+    matticklet_check(cuts, 3 * CAPACITY, reading.events, analysis.cut_nodes, analysis.cut_root, proposal.set, heads, AREA, &checked);
+}
 static void compare(void) { matticklet_compare(room, listing.used, room, listing.used, &comparison); }
 static void folder(void)
 {
@@ -162,6 +184,10 @@ int main(void)
         bad |= say("bracket", bracket, base, &ends.number);
         bad |= say("report", report, base, &reported.number);
         bad |= say("sizes", by_size, base, &tally.number);
+        bad |= say("first missing", first_missing, base, &missed.number);
+        bad |= say("holding", holding, base, &held.number);
+        bad |= say("plan", plan, base, &proposal.number);
+        bad |= say("check", check, base, &checked.number);
         bad |= say("folder", folder, base, &gathered.number);
         bad |= say("export", export_tree, base, &exported.number);
         text_length = exported.bytes;

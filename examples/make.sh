@@ -4,6 +4,7 @@
 # metropolis.sizes and folder.sizes how many there are of each size, in these two and in three trees together, as c/sizes prints them.
 # corridor.store has the settings of corridor.settings, and corridor.seasons what c/season prints of the corridor under its editions.
 # corridor_sites is the corridor with the sites of corridor.sites. corridor.reports has what c/report prints under editions 1 and 2, and 3, which is refused.
+# corridor.plan has what c/plan prints: a proposal, checked; a set that is not enough; a name that there is not.
 set -e
 cd "$(dirname "$0")"
 cargo build --release --offline --quiet -j1 --manifest-path ../tests/second/Cargo.toml
@@ -19,6 +20,7 @@ $second at corridor.tree $(awk '$1 == "event" { name[$2] = $3; next } NF == 2 { 
 $second program corridor_sites.tree > corridor_sites.out
 awk -f by_name.awk corridor.names corridor.out > corridor.cuts
 $second sizes corridor.tree > corridor.sizes
+{ $second plan corridor.txt; $second plan corridor.txt clockNorth server; $second plan corridor.txt nobody; } > corridor.plan
 for edition in 1 2 3; do $second report corridor.tree $edition; done > corridor.reports
 # shellcheck disable=SC2046 # a word for each setting
 $second store $(awk 'FNR == NR { number[$3] = $2; next } { print $1 ":" number[$2] ":" $3 }' corridor.names corridor.settings) > corridor.store

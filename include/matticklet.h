@@ -42,7 +42,7 @@ enum {
     MATTICKLET_LEFT_TWICE = 16,  /* a left name twice */
     MATTICKLET_RING = 17,        /* a name that leads back to itself */
     MATTICKLET_ROOTS = 18,       /* not exactly one root */
-    MATTICKLET_TOO_MANY = 19,    /* more than 2^64 - 1 cuts of one size */
+    MATTICKLET_TOO_MANY = 19,    /* more than 2^64 - 1 cuts of one size, or that hold one event */
     MATTICKLET_BAD_LISTING = 20, /* a listing out of order, or with a bad record */
     MATTICKLET_NARROW = 21,      /* an input of kind 08 with a number below 256 */
     MATTICKLET_SITED = 22,       /* a site that isn't 0, where the form to be written has none */
@@ -364,6 +364,74 @@ void matticklet_folder(const uint8_t *bytes, size_t bytes_length, const size_t *
                        uint64_t *counts, size_t counts_length, uint64_t *less, size_t less_length,
                        uint64_t *work, size_t work_length, uint64_t *reached, size_t reached_length,
                        struct matticklet_gathered *answer);
+
+/* The maintenance day planner: which events to keep sound, so that the root can't fail whatever else does. Each of these calls works on any cut diagram; its cuts
+ * are the sets that matticklet_list lists, in that order, and the root fails where all events of one of them do. A cut misses a set if the two have no event in
+ * common. None of the calls lists the cuts: each goes over the nodes, so that 2^60 cuts are no matter. */
+
+struct matticklet_missed {
+    uint64_t number; /* 0, 9, 12 or 13 */
+    uint64_t place;  /* 0 */
+    uint64_t found;  /* 1 exactly if a cut misses the set; 0 in a refusal */
+    uint64_t cut[MATTICKLET_SET_WORDS]; /* the first that does; empty where none does and in a refusal. The empty set may be a cut: `found` tells */
+};
+
+/* Finds the first cut that misses a set: 12, then 9, then 13. Length, otherwise 9: some at least the table's capacity, plus 2. 13 where the set has an event
+ * from `events` on. Done: some is zero to the last number. A refusal changes nothing. */
+void matticklet_first_missing(const uint32_t *cuts, size_t cuts_length, size_t events, size_t count, size_t root,
+                              const uint64_t set[MATTICKLET_SET_WORDS], uint32_t *some, size_t some_length,
+                              struct matticklet_missed *answer);
+
+struct matticklet_held {
+    uint64_t number; /* 0, 9, 12, 13 or 19 */
+    uint64_t place;  /* 0 */
+};
+
+/* Counts for each event the cuts that miss a set and hold the event: 12, then 9, 13 and 19. Lengths, otherwise 9: counts at least `events`; below and ways each at
+ * least 2 * (the table's capacity + 2). Done: counts[e] is the number of cuts that miss the set and hold event e, for e below
+ * `events`; what lies behind these stays as it was. 19 exactly when some such number is above 2^64 - 1, whatever stands in nodes that the root does not reach; counts
+ * then stay as they were. below and ways are zero to the last number after 0 and after 19; 12, 9 and 13 change nothing. */
+void matticklet_holding(const uint32_t *cuts, size_t cuts_length, size_t events, size_t count, size_t root,
+                        const uint64_t set[MATTICKLET_SET_WORDS], uint64_t *counts, size_t counts_length,
+                        uint64_t *below, size_t below_length, uint64_t *ways, size_t ways_length,
+                        struct matticklet_held *answer);
+
+/* What the checker says of a set. */
+enum {
+    MATTICKLET_NOTHING_SAID = 0, /* a refusal */
+    MATTICKLET_ACCEPTED = 1,     /* the root can't fail while these events are sound, whatever else fails, and dropping any one of them loses that */
+    MATTICKLET_CUT_MISSES = 2,   /* the root can fail: `cut` is the first cut that misses the set */
+    MATTICKLET_DROPPABLE = 3     /* the root can't fail, nor could it without `member`, which is the lowest such */
+};
+
+struct matticklet_checked {
+    uint64_t number; /* 0, 9, 12 or 13 */
+    uint64_t place;  /* 0 */
+    uint64_t said;   /* one of the four above */
+    uint64_t member; /* with MATTICKLET_DROPPABLE, else 0 */
+    uint64_t cut[MATTICKLET_SET_WORDS]; /* with MATTICKLET_CUT_MISSES, and then it may be the empty set; else empty */
+};
+
+/* Checks a set of events that are to be kept sound, whoever proposed it: 12, then 9, then 13, as matticklet_first_missing. A cut that misses the set comes before
+ * a member that could be dropped. A root that always fails has no accepted set; the empty set is accepted exactly if the root can't fail. Done: some is zero to the
+ * last number. A refusal changes nothing. Each member costs one pass over the nodes. */
+void matticklet_check(const uint32_t *cuts, size_t cuts_length, size_t events, size_t count, size_t root,
+                      const uint64_t set[MATTICKLET_SET_WORDS], uint32_t *some, size_t some_length,
+                      struct matticklet_checked *answer);
+
+struct matticklet_proposal {
+    uint64_t number; /* 0, 9, 12 or 19 */
+    uint64_t place;  /* 0 */
+    uint64_t set[MATTICKLET_SET_WORDS]; /* empty in a refusal */
+};
+
+/* Proposes a set: takes the event in the most cuts that are left, of several such the lowest, again and again until no cut left holds an event. 12, then 9, then 19
+ * where an event is in more than 2^64 - 1 cuts, whatever stands in nodes that the root does not reach. Lengths, otherwise 9: below and ways as with
+ * matticklet_holding. below and ways are zero to the last number after 0 and after 19; 12 and 9 change nothing. Each event that is taken costs one pass over the nodes,
+ * up and down. A proposal has no standing until matticklet_check has seen it: it may have a member that could be dropped, and where the empty set is a cut it is missed. */
+void matticklet_plan(const uint32_t *cuts, size_t cuts_length, size_t events, size_t count, size_t root,
+                     uint64_t *below, size_t below_length, uint64_t *ways, size_t ways_length,
+                     struct matticklet_proposal *answer);
 
 /* Two listings compared: yesterday's and today's, each the bytes that matticklet_list wrote, one room's behind the other's. A listing is good if its
  * cuts stand in matticklet_list's order, none twice, each with its members rising and its 22 at the end; kind 23 with a number below 256, or with one that

@@ -17,6 +17,7 @@ enum { GUARD = 72, AREAS = 24 }; /* no area is aligned beyond its need */
 enum { GUARDS_STAND = 1, CONST_AREAS_STAND = 2 };
 enum { READ = 1, WRITE = 2, ANALYSE = 3, LIST = 4, BRACKET = 5, IMPORT = 6, EXPORT = 7, SIZES = 8, FOLDER = 9 };
 enum { SIDE = 10, FIRST_DIFFERENCE = 11, COMPARE = 12, TO_SITES = 13, FROM_SITES = 14, REPORT = 15, ANALYSE_SEASON = 16, CHANCES_UNDER = 17 };
+enum { FIRST_MISSING = 18, HOLDING = 19, CHECK = 20, PLAN = 21 };
 enum { LISTS = 11, RING = 9 }; /* of an import, in the header's order */
 
 struct area {
@@ -389,6 +390,63 @@ static void compare_call(void)
     reply(answer, NULL, 0);
 }
 
+static void first_missing_call(void)
+{
+    struct area *cuts = area(4);
+    size_t events = number(), count = number(), root = number();
+    struct area *set = area(8), *some = area(4);
+    struct area *answer = answer_area(3 + MATTICKLET_SET_WORDS);
+    struct matticklet_missed *a = contents(answer);
+    matticklet_first_missing(contents(cuts), cuts->length, events, count, root, contents(set), contents(some), some->length, a);
+    if (spoiled == FIRST_MISSING && a->found && count > 3)
+        a->cut[0] ^= 1; /* another cut */
+    struct area *written[] = { some };
+    reply(answer, written, 1);
+}
+
+static void holding_call(void)
+{
+    struct area *cuts = area(4);
+    size_t events = number(), count = number(), root = number();
+    struct area *set = area(8), *counts = area(8), *below = area(8), *ways = area(8);
+    struct area *answer = answer_area(2);
+    struct matticklet_held *a = contents(answer);
+    matticklet_holding(contents(cuts), cuts->length, events, count, root, contents(set), contents(counts), counts->length,
+                       contents(below), below->length, contents(ways), ways->length, a);
+    if (spoiled == HOLDING && a->number == MATTICKLET_DONE && counts->length > events)
+        ((uint64_t *)contents(counts))[events] ^= 1; /* behind the counts */
+    struct area *written[] = { counts, below, ways };
+    reply(answer, written, 3);
+}
+
+static void check_call(void)
+{
+    struct area *cuts = area(4);
+    size_t events = number(), count = number(), root = number();
+    struct area *set = area(8), *some = area(4);
+    struct area *answer = answer_area(4 + MATTICKLET_SET_WORDS);
+    struct matticklet_checked *a = contents(answer);
+    matticklet_check(contents(cuts), cuts->length, events, count, root, contents(set), contents(some), some->length, a);
+    if (spoiled == CHECK && a->said == MATTICKLET_DROPPABLE && count > 3)
+        a->said = MATTICKLET_ACCEPTED;
+    struct area *written[] = { some };
+    reply(answer, written, 1);
+}
+
+static void plan_call(void)
+{
+    struct area *cuts = area(4);
+    size_t events = number(), count = number(), root = number();
+    struct area *below = area(8), *ways = area(8);
+    struct area *answer = answer_area(2 + MATTICKLET_SET_WORDS);
+    struct matticklet_proposal *a = contents(answer);
+    matticklet_plan(contents(cuts), cuts->length, events, count, root, contents(below), below->length, contents(ways), ways->length, a);
+    if (spoiled == PLAN && a->number == MATTICKLET_TOO_MANY)
+        ((uint64_t *)contents(ways))[0] = 1; /* 19 leaves a number standing */
+    struct area *written[] = { below, ways };
+    reply(answer, written, 2);
+}
+
 int main(int words, char **word)
 {
     uint64_t call;
@@ -415,6 +473,10 @@ int main(int words, char **word)
         case REPORT: report_call(); break;
         case ANALYSE_SEASON: analyse_season_call(); break;
         case CHANCES_UNDER: chances_under_call(); break;
+        case FIRST_MISSING: first_missing_call(); break;
+        case HOLDING: holding_call(); break;
+        case CHECK: check_call(); break;
+        case PLAN: plan_call(); break;
         default: fail("no such call");
         }
         if (fflush(stdout) != 0)

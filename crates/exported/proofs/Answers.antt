@@ -38,7 +38,7 @@ taken-from events gates sited C S K L N I e = ap (λ E. record { events = E; «e
 -- ---- numbers
 
 -- a flag as a number
-flag : (b : Bool) → boolByte b ≡ cond b 1 0
+pub flag : (b : Bool) → boolByte b ≡ cond b 1 0
 flag true = refl
 flag false = refl
 

@@ -1,3 +1,4 @@
 pub mod Answers
 pub mod Joining
+pub mod Planning
 pub mod TwoListings

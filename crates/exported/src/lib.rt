@@ -2,6 +2,7 @@
 mod analysing; // a tree analysed, also under the settings of an edition
 mod ending; // an answer whose numbers end in the words of a set
 mod listings; // two listings compared
+mod maintenance; // which events to keep sound
 mod moving; // a tree with sites, and without
 mod reporting; // the cuts that the review rule tells
 

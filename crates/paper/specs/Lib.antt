@@ -17,6 +17,7 @@ pub mod Changes
 pub mod Chance
 pub mod Sizes
 pub mod Reports
+pub mod Planner
 pub mod Answers
 pub mod Store
 pub mod Forcing
@@ -34,3 +35,4 @@ pub mod Cases
 pub mod TextCases
 pub mod ReportCases
 pub mod SeasonCases
+pub mod PlannerCases

@@ -15,6 +15,7 @@ pub mod AnyTree
 pub mod Delivers
 pub mod BySize
 pub mod Report
+pub mod Maintained
 pub mod Old
 pub mod Sites
 pub mod Changed

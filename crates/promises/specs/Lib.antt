@@ -5,6 +5,7 @@ pub mod Delivers
 pub mod Memo
 pub mod BySize
 pub mod Report
+pub mod Maintained
 pub mod Old
 pub mod Sites
 pub mod Changed

@@ -5,6 +5,7 @@ use crate::compare_added::{compare_added_list, meet_added, meet_refusal};
 use crate::compare_changes::compare_pairs;
 use crate::compare_equations::{compare_texts, compare_trees};
 use crate::compare_lent::{compare_bracket, compare_list};
+use crate::compare_plans::compare_plans;
 use crate::compare_reports::compare_report;
 use crate::compare_seasons::{compare_season, meet_season};
 use crate::compare_sites::{compare_forms, compare_moves};
@@ -93,6 +94,7 @@ pub fn compare_diagram(library: &dyn Library, diagram: &Lent, random: &mut Rando
             compare_list(library, diagram, random, tally);
             compare_sizes(library, diagram, random, tally);
             compare_report(library, diagram, None, random, tally);
+            compare_plans(library, diagram, random, tally);
         }
     }
 }
@@ -297,7 +299,7 @@ fn compare_tables(done: &Analysis, got: &AnalyseAnswer, memory: &Memory, tally: 
     tally.same("the cut root", Some(done.cuts.root), ours(&map, got.cut_root));
 }
 
-/// The library's own tables lent to its listing, its counting, its report and its bracket.
+/// The library's own tables lent to its listing, its counting, its report, its bracket and its planner.
 fn compare_uses(
     library: &dyn Library,
     done: &Analysis,
@@ -325,6 +327,8 @@ fn compare_uses(
     if random.once_in(8) {
         // Each taken for the other kind: answered for what it denotes, if it keeps that kind's rules.
         compare_list(library, &Lent { sort: Sort::Cuts, ..function }, random, tally);
-        compare_bracket(library, &Lent { sort: Sort::Function, ..family }, Some(chances), random, tally);
+        let other = Lent { sort: Sort::Function, ..family.clone() };
+        compare_bracket(library, &other, Some(chances), random, tally);
     }
+    compare_plans(library, &family, random, tally);
 }

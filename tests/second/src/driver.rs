@@ -5,6 +5,7 @@ use crate::changes::{Comparison, Difference, Side, Verdict};
 use crate::equations::LISTS;
 use crate::lent::Lent;
 use crate::library::*;
+use crate::planner::HOLDING_AREAS;
 use crate::report::REPORT_AREAS;
 use crate::sets::{Set, WORDS};
 use crate::settings::Season;
@@ -31,6 +32,10 @@ const FROM_SITES: u64 = 14;
 const REPORT: u64 = 15;
 const ANALYSE_SEASON: u64 = 16;
 const CHANCES_UNDER: u64 = 17;
+const FIRST_MISSING: u64 = 18;
+const HOLDING: u64 = 19;
+const CHECK: u64 = 20;
+const PLAN: u64 = 21;
 
 /// What the driver says of a call when every guard and every constant area stands.
 const ALL_STANDS: u64 = 3;
@@ -85,6 +90,12 @@ impl Request {
         let mut request = self.number(area.len() as u64);
         request.0.extend(area.iter().flat_map(|number| number.to_le_bytes()));
         request
+    }
+
+    /// A cut diagram as it is lent.
+    fn diagram(self, diagram: &Lent) -> Request {
+        let request = self.numbers(&diagram.table).number(diagram.event_count);
+        request.number(diagram.node_count).number(diagram.root)
     }
 
     /// Where a listing starts. From the beginning the set is not looked at.
@@ -295,6 +306,14 @@ impl Library for Driver {
         [capacity; REPORT_AREAS]
     }
 
+    fn smallest_missing_area(&self, capacity: usize) -> usize {
+        capacity + 2
+    }
+
+    fn smallest_holding_areas(&self, capacity: usize) -> [usize; HOLDING_AREAS] {
+        [2 * (capacity + 2); HOLDING_AREAS]
+    }
+
     fn read(&self, bytes: &[u8]) -> ReadAnswer {
         let lent = Arrays::dirty(seed(bytes));
         let mut arrays = lent.clone();
@@ -413,6 +432,33 @@ impl Library for Driver {
         let [number, place, side, gone, new, kept] = self.of_listings(COMPARE, yesterday, today);
         let verdict = self.verdict(number, place, side);
         Comparison { verdict, gone: gone as usize, new: new as usize, kept: kept as usize }
+    }
+
+    fn first_missing(&self, diagram: &Lent, set: Set, some: &mut [u32]) -> MissedAnswer {
+        let request = Request::of(FIRST_MISSING).diagram(diagram).words(&set.0).numbers(some);
+        let [number, place, found, cut @ ..]: [u64; 3 + WORDS] = self.ask(request, &mut [Area::Numbers(some)]);
+        MissedAnswer { number: small(number), place, found: self.flag(found), cut: Set(cut) }
+    }
+
+    fn holding(&self, diagram: &Lent, set: Set, areas: HoldingAreas) -> HeldAnswer {
+        let HoldingAreas { counts, work: [below, ways] } = areas;
+        let request = Request::of(HOLDING).diagram(diagram).words(&set.0).words(counts).words(below).words(ways);
+        let [number, place] = self.ask(request, &mut [Area::Words(counts), Area::Words(below), Area::Words(ways)]);
+        HeldAnswer { number: small(number), place }
+    }
+
+    fn check(&self, diagram: &Lent, set: Set, some: &mut [u32]) -> CheckAnswer {
+        let request = Request::of(CHECK).diagram(diagram).words(&set.0).numbers(some);
+        let [number, place, said, member, cut @ ..]: [u64; 4 + WORDS] = self.ask(request, &mut [Area::Numbers(some)]);
+        CheckAnswer { number: small(number), place, said, member, cut: Set(cut) }
+    }
+
+    fn plan(&self, diagram: &Lent, work: [&mut [u64]; HOLDING_AREAS]) -> PlanAnswer {
+        let [below, ways] = work;
+        let request = Request::of(PLAN).diagram(diagram).words(below).words(ways);
+        let [number, place, set @ ..]: [u64; 2 + WORDS] =
+            self.ask(request, &mut [Area::Words(below), Area::Words(ways)]);
+        PlanAnswer { number: small(number), place, set: Set(set) }
     }
 
     fn fault(&self) -> Option<&'static str> {

@@ -4,6 +4,7 @@
 use crate::changes::{Comparison, Difference, Verdict};
 use crate::equations::LISTS;
 use crate::lent::Lent;
+use crate::planner::HOLDING_AREAS;
 use crate::report::REPORT_AREAS;
 use crate::sets::Set;
 use crate::settings::Season;
@@ -100,6 +101,39 @@ pub struct Asked<'a> {
     pub after: Option<Set>,
 }
 
+/// The first cut that misses a set; the empty set where none is found.
+#[derive(Clone, Copy, Debug, PartialEq, Eq)]
+pub struct MissedAnswer {
+    pub number: u32,
+    pub place: u64,
+    pub found: bool,
+    pub cut: Set,
+}
+
+#[derive(Clone, Copy, Debug, PartialEq, Eq)]
+pub struct HeldAnswer {
+    pub number: u32,
+    pub place: u64,
+}
+
+/// `said` is 0 in a refusal; the member is 0 and the cut empty unless they are told.
+#[derive(Clone, Copy, Debug, PartialEq, Eq)]
+pub struct CheckAnswer {
+    pub number: u32,
+    pub place: u64,
+    pub said: u64,
+    pub member: u64,
+    pub cut: Set,
+}
+
+/// The empty set in a refusal.
+#[derive(Clone, Copy, Debug, PartialEq, Eq)]
+pub struct PlanAnswer {
+    pub number: u32,
+    pub place: u64,
+    pub set: Set,
+}
+
 /// What an analysis is lent, and a folder too; an analysis has one list more.
 pub struct Areas<'a> {
     pub nodes: &'a mut [u32],
@@ -143,12 +177,20 @@ impl CountAreas<'_> {
     }
 }
 
+/// What counting the cuts that hold an event is lent.
+pub struct HoldingAreas<'a> {
+    pub counts: &'a mut [u64],
+    pub work: [&'a mut [u64]; HOLDING_AREAS],
+}
+
 pub trait Library {
     /// The documented smallest lengths of the work areas; an area that isn't asked for has 0.
     fn smallest_areas(&self, node_capacity: usize, cut_capacity: usize) -> [usize; 4];
     fn smallest_bracket_areas(&self, capacity: usize) -> [usize; 2];
     fn smallest_count_areas(&self, capacity: usize) -> [usize; COUNT_AREAS];
     fn smallest_report_areas(&self, capacity: usize) -> [usize; REPORT_AREAS];
+    fn smallest_missing_area(&self, capacity: usize) -> usize;
+    fn smallest_holding_areas(&self, capacity: usize) -> [usize; HOLDING_AREAS];
 
     fn read(&self, bytes: &[u8]) -> ReadAnswer;
     fn write(&self, tree: &Tree, room: &mut [u8]) -> WriteAnswer;
@@ -173,6 +215,13 @@ pub trait Library {
 
     fn sizes(&self, diagram: &Lent, counting: CountAreas) -> SizesAnswer;
     fn folder(&self, bytes: &[u8], lengths: &[u64], areas: Areas, counting: CountAreas) -> FolderAnswer;
+
+    /// The first cut that misses a set; for each event the cuts that miss the set and hold the event.
+    fn first_missing(&self, diagram: &Lent, set: Set, some: &mut [u32]) -> MissedAnswer;
+    fn holding(&self, diagram: &Lent, set: Set, areas: HoldingAreas) -> HeldAnswer;
+    /// A set that is to be kept sound, checked; and one proposed.
+    fn check(&self, diagram: &Lent, set: Set, some: &mut [u32]) -> CheckAnswer;
+    fn plan(&self, diagram: &Lent, work: [&mut [u64]; HOLDING_AREAS]) -> PlanAnswer;
 
     /// What a binding itself saw go wrong in the last call: a write outside of what was lent to be written, or no return.
     fn fault(&self) -> Option<&'static str> {

@@ -11,9 +11,11 @@ use second::generator::{middle_shape, sites, tree, wide_tree};
 use second::judge::{read, write, Refusal, OLD_READER, READER};
 use second::listing::{list, Walk};
 use second::moves::{from_sites, to_sites};
+use second::planner::{judge as judge_set, plan, without, Judgement};
 use second::program::{program, report};
 use second::random::Random;
 use second::report::{refusal, reportable_cuts};
+use second::sets::Set;
 use second::settings::{analyse_season, chances_under, Season, Setting, State};
 use second::sizes::{folder, RefusedFolder};
 use second::stores::store_of;
@@ -38,6 +40,7 @@ second sizes FILE..            how many cuts of each size the trees have togethe
 second report FILE EDITION     the cuts that are reportable under an edition of the review rule
 second season FILE STORE EDITION  the cuts and the root's chance under the settings of an edition
 second store SETTING..         a store's bytes: settings as 2:7:failed, edition, event, and free, failed or sound
+second plan FILE [NAME..]      of typed equations what to keep sound: a proposal, or these names, checked
 second city SIZE               the equations of a city-like tree: small, middle, large, or wide of 900 events
 second random SEED [wide|sited]  the bytes of a seeded tree of middle size, or of 255 to 1,024 events, or with sites
 a FILE of - is the standard input";
@@ -93,6 +96,7 @@ fn main() {
         "from-sites" => moved(from_sites(&bytes), out),
         "at" => at(&bytes, &words[2..], out),
         "sizes" => by_size(&words[1..], out),
+        "plan" => planned(&bytes, &words[2..], out),
         "report" => reviewed(&bytes, words.get(2).map_or(0, number) as u32, out),
         "season" if words.len() == 4 => in_season(&bytes, &contents(&words[2]), number(&words[3]) as u16, out),
         other => {
@@ -306,6 +310,40 @@ fn in_season(bytes: &[u8], store: &[u8], edition: u16, out: &mut dyn Write) -> i
     let chances = chances_under(season, &done.tree.chances).expect("the store is accepted");
     let top = bracket(&done.lent_function(), &chances, true);
     writeln!(out, "top {} {}", top.low, top.high)
+}
+
+/// A proposal, or the set of these names, checked; and again without each member that could be dropped.
+fn planned(text: &[u8], names: &[String], out: &mut dyn Write) -> io::Result<()> {
+    let Import { tree, shown, .. } = imported(text);
+    let done = analyse(&write(&tree).expect("an imported tree is accepted"), Lengths::AMPLE);
+    let family = done.unwrap_or_else(|Refusal { number, .. }| panic!("refused {number}")).lent_cuts();
+    let name = |event: u32| String::from_utf8_lossy(name_at(text, shown[event as usize])).into_owned();
+    let root = String::from_utf8_lossy(name_at(text, shown[shown.len() - 1]));
+    let by_name = |set: &Set| set.members().into_iter().map(|event| format!(" {}", name(event))).collect::<String>();
+    let event = |wanted: &String| (0..tree.events() as u32).find(|&event| name(event) == *wanted);
+    let mut set = match names {
+        [] => match plan(&family) {
+            Ok(set) => set,
+            Err(number) => return writeln!(out, "refused {number}"),
+        },
+        names => match names.iter().map(event).collect::<Option<Vec<u32>>>() {
+            Some(events) => Set::of(&events),
+            None => return writeln!(out, "refused 13"),
+        },
+    };
+    writeln!(out, "{}:{}", if names.is_empty() { "proposed" } else { "asked" }, by_name(&set))?;
+    loop {
+        match judge_set(&family, set) {
+            Judgement::Accepted => {
+                return writeln!(out, "accepted: {root} can't fail while these are sound:{}", by_name(&set));
+            }
+            Judgement::Missed(cut) => return writeln!(out, "not enough: {root} fails with{}", by_name(&cut)),
+            Judgement::Droppable(member) => {
+                writeln!(out, "more than enough: {} could be dropped", name(member))?;
+                set = without(set, member);
+            }
+        }
+    }
 }
 
 fn by_size(files: &[String], out: &mut dyn Write) -> io::Result<()> {

@@ -10,6 +10,7 @@ use crate::lent::Lent;
 use crate::library::*;
 use crate::listing::{list, Listing};
 use crate::moves::{from_sites_into, to_sites_into};
+use crate::planner::{self, Judgement, HOLDING_AREAS};
 use crate::report::{report, Report, REPORT_AREAS};
 use crate::sets::Set;
 use crate::settings::{analyse_season, chances_under, Season};
@@ -78,6 +79,28 @@ pub fn lay_out_chances(changed: Result<Vec<u32>, Refusal>, chances: &mut [u32]) 
     }
 }
 
+/// What is answered of a cut that misses a set.
+pub fn told_cut(found: Result<Option<Set>, u32>) -> MissedAnswer {
+    let cut = found.ok().flatten();
+    MissedAnswer { number: found.err().unwrap_or(0), place: 0, found: cut.is_some(), cut: cut.unwrap_or(Set::EMPTY) }
+}
+
+/// What is answered of a set that is checked.
+pub fn told_judgement(judged: Result<Judgement, u32>) -> CheckAnswer {
+    let (said, member, cut) = match judged {
+        Err(_) => (0, 0, Set::EMPTY),
+        Ok(Judgement::Accepted) => (planner::ACCEPTED, 0, Set::EMPTY),
+        Ok(Judgement::Missed(cut)) => (planner::CUT_MISSES, 0, cut),
+        Ok(Judgement::Droppable(member)) => (planner::DROPPABLE, member as u64, Set::EMPTY),
+    };
+    CheckAnswer { number: judged.err().unwrap_or(0), place: 0, said, member, cut }
+}
+
+/// What is answered where a set is proposed.
+pub fn told_plan(planned: Result<Set, u32>) -> PlanAnswer {
+    PlanAnswer { number: planned.err().unwrap_or(0), place: 0, set: planned.unwrap_or(Set::EMPTY) }
+}
+
 /// What an analysis leaves and answers, of whichever program.
 pub fn lay_out_analysis(done: Result<Analysis, Refusal>, mut areas: Areas, added: &mut [u32]) -> AnalyseAnswer {
     let refusal = done.as_ref().err().copied();
@@ -117,6 +140,16 @@ impl Mirror {
         work.iter().zip(smallest).all(|(area, least)| area.len() >= least)
     }
 
+    /// Whether the area of a search is long enough for a table of so many numbers, and whether those of a counting are.
+    pub fn missing_suffices(&self, table: usize, some: &[u32]) -> bool {
+        some.len() >= self.smallest_missing_area(table / 3)
+    }
+
+    pub fn holding_suffices(&self, table: usize, work: &[&mut [u64]; HOLDING_AREAS]) -> bool {
+        let smallest = self.smallest_holding_areas(table / 3);
+        work.iter().zip(smallest).all(|(area, least)| area.len() >= least)
+    }
+
     /// With a list of added nodes that is long enough.
     pub fn lengths(&self, areas: &Areas) -> Lengths {
         let smallest = self.smallest_areas(areas.nodes.len() / 3, areas.cuts.len() / 3);
@@ -146,6 +179,14 @@ impl Library for Mirror {
 
     fn smallest_report_areas(&self, capacity: usize) -> [usize; REPORT_AREAS] {
         [capacity; REPORT_AREAS]
+    }
+
+    fn smallest_missing_area(&self, capacity: usize) -> usize {
+        capacity + 2
+    }
+
+    fn smallest_holding_areas(&self, capacity: usize) -> [usize; HOLDING_AREAS] {
+        [2 * (capacity + 2); HOLDING_AREAS]
     }
 
     fn read(&self, bytes: &[u8]) -> ReadAnswer {
@@ -245,5 +286,48 @@ impl Library for Mirror {
 
     fn compare(&self, yesterday: &[u8], today: &[u8]) -> Comparison {
         changes::compare(yesterday, today)
+    }
+
+    fn first_missing(&self, diagram: &Lent, set: Set, some: &mut [u32]) -> MissedAnswer {
+        let refused = planner::refusal(diagram, self.missing_suffices(diagram.table.len(), some), set);
+        let found = refused.map_or_else(|| Ok(planner::first_missing(diagram, set)), Err);
+        if found.is_ok() {
+            some.fill(0);
+        }
+        told_cut(found)
+    }
+
+    fn holding(&self, diagram: &Lent, set: Set, areas: HoldingAreas) -> HeldAnswer {
+        let HoldingAreas { counts, work } = areas;
+        let suffice = counts.len() as u64 >= diagram.event_count && self.holding_suffices(diagram.table.len(), &work);
+        if let Some(number) = planner::refusal(diagram, suffice, set) {
+            return HeldAnswer { number, place: 0 };
+        }
+        work.into_iter().for_each(|area| area.fill(0));
+        match planner::holding(diagram, &set) {
+            Err(number) => HeldAnswer { number, place: 0 },
+            Ok(own) => {
+                counts[..own.len()].copy_from_slice(&own);
+                HeldAnswer { number: 0, place: 0 }
+            }
+        }
+    }
+
+    fn check(&self, diagram: &Lent, set: Set, some: &mut [u32]) -> CheckAnswer {
+        let refused = planner::refusal(diagram, self.missing_suffices(diagram.table.len(), some), set);
+        let judged = refused.map_or_else(|| Ok(planner::judge(diagram, set)), Err);
+        if judged.is_ok() {
+            some.fill(0);
+        }
+        told_judgement(judged)
+    }
+
+    fn plan(&self, diagram: &Lent, work: [&mut [u64]; HOLDING_AREAS]) -> PlanAnswer {
+        let suffice = self.holding_suffices(diagram.table.len(), &work);
+        if let Some(number) = planner::refusal(diagram, suffice, Set::EMPTY) {
+            return told_plan(Err(number));
+        }
+        work.into_iter().for_each(|area| area.fill(0));
+        told_plan(planner::plan(diagram))
     }
 }

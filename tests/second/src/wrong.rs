@@ -8,6 +8,7 @@ use crate::judge::{read, write};
 use crate::lent::Lent;
 use crate::library::*;
 use crate::mirror::{lay_out_analysis, Mirror};
+use crate::planner::HOLDING_AREAS;
 use crate::report::REPORT_AREAS;
 use crate::robdd::{Robdd, Steps};
 use crate::sets::Set;
@@ -18,6 +19,7 @@ use crate::wrong_added::wrong_added;
 use crate::wrong_changes::{wrong_compare, wrong_difference, wrong_side};
 use crate::wrong_equations::{wrong_export, wrong_import};
 use crate::wrong_lent::{wrong_bracket, wrong_list};
+use crate::wrong_plans::*;
 use crate::wrong_report::{is_of_reports, wrong_report};
 use crate::wrong_seasons::{is_of_seasons, wrong_chances, wrong_season};
 use crate::wrong_sites::*;
@@ -362,6 +364,64 @@ wrongs! {
     FirstTreeClears,
     EmptyFolderChangesNothing,
     FolderTenWithoutAGate,
+    // The planner: refusals.
+    NineBeforeTwelveOfPlans,
+    ThirteenBeforeNineOfPlans,
+    MembersBeyondPass,
+    MembersBeyondOfLowWords,
+    ThirteenSaysTheMember,
+    NineteenBeforeThirteen,
+    MissingAreaByTheCount,
+    MissingAreaWithoutLeaves,
+    HoldingAreasByTheCount,
+    HoldingAreasOfOneNumber,
+    CountsOneShortPass,
+    // The first cut that misses a set.
+    LastCutThatMisses,
+    ShortestCutThatMisses,
+    MinimalCutsAlone,
+    FirstCutOfAll,
+    EmptyCutMissesNothing,
+    EmptyCutNotFound,
+    SetToldForNoCut,
+    HighMembersNotKept,
+    MissingAreaLeftDirty,
+    PlannerClearsOnThirteen,
+    // The check.
+    MemberToldFirst,
+    HighestMemberTold,
+    OnlyMembersOfNoCut,
+    NoMemberIsJudged,
+    LastMemberNotJudged,
+    EmptySetNeverAccepted,
+    PlaceSaysTheMember,
+    AcceptedInARefusal,
+    CutToldWithTheMember,
+    MemberToldWithTheCut,
+    AreaLeftWithAMember,
+    // The cuts that are left of each event.
+    CountsOfAllCuts,
+    CountsOfCutsThatMeet,
+    MembersStillCounted,
+    MinimalCutsCounted,
+    NodesCountedForCuts,
+    LargestCountIsNineteen,
+    CountsHeldAtTheLargest,
+    NineteenByTheNumberOfCuts,
+    NineteenByAnUnreachedNode,
+    HeldWrittenBeforeNineteen,
+    ZerosBehindTheHeld,
+    HoldingAreaLeftDirty,
+    HoldingAreasStayOnNineteen,
+    // The plan.
+    TiesToTheHigherNumber,
+    TakesTheFirstCutsEvent,
+    TakesTheFewest,
+    OneEventAlone,
+    PlanIsPruned,
+    EmptyCutEndsThePlan,
+    PlanCutToAByte,
+    SetToldWithNineteen,
     // Listings compared.
     EndOfCutLacks,
     NarrowMembersTaken,
@@ -411,6 +471,14 @@ impl Library for WrongProgram {
 
     fn smallest_report_areas(&self, capacity: usize) -> [usize; REPORT_AREAS] {
         Mirror.smallest_report_areas(capacity)
+    }
+
+    fn smallest_missing_area(&self, capacity: usize) -> usize {
+        Mirror.smallest_missing_area(capacity)
+    }
+
+    fn smallest_holding_areas(&self, capacity: usize) -> [usize; HOLDING_AREAS] {
+        Mirror.smallest_holding_areas(capacity)
     }
 
     fn read(&self, bytes: &[u8]) -> ReadAnswer {
@@ -571,6 +639,34 @@ impl Library for WrongProgram {
 
     fn folder(&self, bytes: &[u8], lengths: &[u64], areas: Areas, counting: CountAreas) -> FolderAnswer {
         wrong_folder(self.0, bytes, lengths, areas, counting)
+    }
+
+    fn first_missing(&self, diagram: &Lent, set: Set, some: &mut [u32]) -> MissedAnswer {
+        match is_of_plans(self.0) {
+            true => wrong_missing(self.0, diagram, set, some),
+            false => Mirror.first_missing(diagram, set, some),
+        }
+    }
+
+    fn holding(&self, diagram: &Lent, set: Set, areas: HoldingAreas) -> HeldAnswer {
+        match is_of_plans(self.0) {
+            true => wrong_holding(self.0, diagram, set, areas),
+            false => Mirror.holding(diagram, set, areas),
+        }
+    }
+
+    fn check(&self, diagram: &Lent, set: Set, some: &mut [u32]) -> CheckAnswer {
+        match is_of_plans(self.0) {
+            true => wrong_check(self.0, diagram, set, some),
+            false => Mirror.check(diagram, set, some),
+        }
+    }
+
+    fn plan(&self, diagram: &Lent, work: [&mut [u64]; HOLDING_AREAS]) -> PlanAnswer {
+        match is_of_plans(self.0) {
+            true => wrong_plan(self.0, diagram, work),
+            false => Mirror.plan(diagram, work),
+        }
     }
 }
 

@@ -3,6 +3,7 @@
 use second::compare::compare_input;
 use second::compare_added::compare_added;
 use second::compare_large::compare_twins;
+use second::compare_plans::compare_maintenance;
 use second::compare_reports::compare_reviews;
 use second::compare_seasons::compare_seasons;
 use second::compare_sites::compare_sites;
@@ -12,6 +13,7 @@ use second::mirror::Mirror;
 use second::random::Random;
 use second::tally::Tally;
 use second::wrong::{Wrong, WrongProgram, ALL};
+use second::wrong_plans::is_of_plans;
 use second::wrong_report::is_of_reports;
 use second::wrong_seasons::is_of_seasons;
 
@@ -46,6 +48,10 @@ fn the_mirror_passes() {
     assert_eq!(numbers("export"), [0, 2, 4, 5, 6, 7, 8, 9]);
     assert_eq!(numbers("sizes"), [0, 9, 12, 19]);
     assert_eq!(numbers("folder"), [0, 1, 2, 3, 4, 5, 6, 7, 8, 9, 10, 11, 19, 21]);
+    assert_eq!(numbers("first missing"), [0, 9, 12, 13]);
+    assert_eq!(numbers("holding"), [0, 9, 12, 13, 19]);
+    assert_eq!(numbers("check"), [0, 9, 12, 13]);
+    assert_eq!(numbers("plan"), [0, 9, 12, 19]);
     for call in ["side", "first difference", "compare"] {
         assert_eq!(numbers(call), [0, 20]);
     }
@@ -202,6 +208,14 @@ fn seasons_are_told_apart() {
     let own: Vec<Wrong> = ALL.iter().copied().filter(|&wrong| is_of_seasons(wrong)).collect();
     assert_eq!(own.len(), 62);
     told_apart(compare_seasons, &own);
+}
+
+/// Every wrong program about the planner.
+#[test]
+fn plans_are_told_apart() {
+    let own: Vec<Wrong> = ALL.iter().copied().filter(|&wrong| is_of_plans(wrong)).collect();
+    assert_eq!(own.len(), 53);
+    told_apart(compare_maintenance, &own);
 }
 
 #[test]
