@@ -21,6 +21,7 @@ static uint8_t tree[MATTICKLET_TREE_BYTES + 64], text[MATTICKLET_TEXT_BYTES], ro
 static size_t tree_length, text_length, memo_length;
 static uint32_t nodes[3 * CAPACITY], cuts[3 * CAPACITY], gates[MATTICKLET_GATES], added[MATTICKLET_GATES], memo[MEMO];
 static uint32_t heads[AREA], next[AREA], marks[AREA], own[AREA], chances[MATTICKLET_EVENTS];
+static uint32_t lows[MATTICKLET_EVENTS], highs[MATTICKLET_EVENTS], rank[MATTICKLET_EVENTS];
 static uint64_t counts[MATTICKLET_SIZES], less[AREA], work[AREA], reached[AREA], below[2 * AREA], ways[2 * AREA];
 static uint8_t kinds[MATTICKLET_GATES], leasts[MATTICKLET_GATES], sizes[MATTICKLET_GATES];
 static uint16_t inputs[MATTICKLET_INPUTS], sites[MATTICKLET_EVENTS];
@@ -30,6 +31,7 @@ static struct matticklet_writing writing;
 static struct matticklet_move moved, back;
 static struct matticklet_analysis analysis;
 static struct matticklet_settings settings;
+static struct matticklet_reply weighed;
 static struct matticklet_listing listing;
 static struct matticklet_missed missed;
 static struct matticklet_held held;
@@ -121,6 +123,11 @@ static void check(void)
 {
     matticklet_check(cuts, 3 * CAPACITY, reading.events, analysis.cut_nodes, analysis.cut_root, proposal.set, heads, AREA, &checked);
 }
+static void importance(void)
+{
+    matticklet_importance(nodes, 3 * CAPACITY, reading.events, analysis.nodes, analysis.root, chances, reading.events, lows, MATTICKLET_EVENTS, highs,
+                          MATTICKLET_EVENTS, rank, MATTICKLET_EVENTS, heads, AREA, next, AREA, marks, AREA, &weighed);
+}
 static void compare(void) { matticklet_compare(room, listing.used, room, listing.used, &comparison); }
 static void folder(void)
 {
@@ -183,6 +190,7 @@ int main(void)
         bad |= say("compare", compare, base, &comparison.number);
         bad |= say("bracket", bracket, base, &ends.number);
         bad |= say("report", report, base, &reported.number);
+        bad |= say("importance", importance, base, &weighed.number);
         bad |= say("sizes", by_size, base, &tally.number);
         bad |= say("first missing", first_missing, base, &missed.number);
         bad |= say("holding", holding, base, &held.number);

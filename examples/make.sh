@@ -4,7 +4,7 @@
 # metropolis.sizes and folder.sizes how many there are of each size, in these two and in three trees together, as c/sizes prints them.
 # corridor.store has the settings of corridor.settings, and corridor.seasons what c/season prints of the corridor under its editions.
 # corridor_sites is the corridor with the sites of corridor.sites. corridor.reports has what c/report prints under editions 1 and 2, and 3, which is refused.
-# corridor.plan has what c/plan prints: a proposal, checked; a set that is not enough; a name that there is not.
+# corridor.plan has what c/plan prints: a proposal, checked; a set that is not enough; a name that there is not. trees.importance has what c/importance prints of three trees.
 set -e
 cd "$(dirname "$0")"
 cargo build --release --offline --quiet -j1 --manifest-path ../tests/second/Cargo.toml
@@ -26,4 +26,5 @@ for edition in 1 2 3; do $second report corridor.tree $edition; done > corridor.
 $second store $(awk 'FNR == NR { number[$3] = $2; next } { print $1 ":" number[$2] ":" $3 }' corridor.names corridor.settings) > corridor.store
 for edition in 1 2 3 4; do $second season corridor.tree corridor.store $edition; done > corridor.seasons
 $second sizes metropolis.tree > metropolis.sizes
+for tree in case1 corridor european1; do $second importance $tree.tree; done > trees.importance
 $second sizes case1.tree corridor.tree european1.tree > folder.sizes

@@ -433,6 +433,26 @@ void matticklet_plan(const uint32_t *cuts, size_t cuts_length, size_t events, si
                      uint64_t *below, size_t below_length, uint64_t *ways, size_t ways_length,
                      struct matticklet_proposal *answer);
 
+/* Which event matters most: for each event the difference between the root's chance with it failed and with it sound, in billionths, and the events ranked. */
+
+struct matticklet_reply {
+    uint64_t number; /* 0, 7, 9 or 12 */
+    uint64_t place;  /* 0 */
+};
+
+/* How much each event matters to the chance of a diagram's root: 12, then 9, then 7, as matticklet_bracket. Lengths, otherwise 9: chances, lows, highs and rank each at
+ * least `events`; down and up each at least the table's capacity, marks at least that plus 2. Done: lows[i] is matticklet_bracket's low with a chance of
+ * MATTICKLET_BILLION for event i less its high with one of 0, highs[i] its high with the former less its low with the latter, each 0 if negative; both are 0 for an
+ * event that stands at no node that the root reaches, so for each that a built root does not depend on. Where a failed event more never mends the root, as in every
+ * built diagram, they enclose the exact difference, each less than 2L from it; L is the number of events at nodes that the root reaches. rank[0] is the event
+ * with the greatest low, and so on; of equal ones the lower event stands first, and every event stands in it once. What lies behind the events' numbers stays
+ * as it was; down, up and marks are zero to the last number. A refusal changes nothing, and the chances are never changed. */
+void matticklet_importance(const uint32_t *nodes, size_t nodes_length, size_t events, size_t count, size_t root,
+                           const uint32_t *chances, size_t chances_length, uint32_t *lows, size_t lows_length,
+                           uint32_t *highs, size_t highs_length, uint32_t *rank, size_t rank_length,
+                           uint32_t *down, size_t down_length, uint32_t *up, size_t up_length,
+                           uint32_t *marks, size_t marks_length, struct matticklet_reply *answer);
+
 /* Two listings compared: yesterday's and today's, each the bytes that matticklet_list wrote, one room's behind the other's. A listing is good if its
  * cuts stand in matticklet_list's order, none twice, each with its members rising and its 22 at the end; kind 23 with a number below 256, or with one that
  * no event has, is bad. A listing of no cut is good, and so is one with a cut inside another. Each of the three calls judges both listings to the last

@@ -17,7 +17,7 @@ enum { GUARD = 72, AREAS = 24 }; /* no area is aligned beyond its need */
 enum { GUARDS_STAND = 1, CONST_AREAS_STAND = 2 };
 enum { READ = 1, WRITE = 2, ANALYSE = 3, LIST = 4, BRACKET = 5, IMPORT = 6, EXPORT = 7, SIZES = 8, FOLDER = 9 };
 enum { SIDE = 10, FIRST_DIFFERENCE = 11, COMPARE = 12, TO_SITES = 13, FROM_SITES = 14, REPORT = 15, ANALYSE_SEASON = 16, CHANCES_UNDER = 17 };
-enum { FIRST_MISSING = 18, HOLDING = 19, CHECK = 20, PLAN = 21 };
+enum { FIRST_MISSING = 18, HOLDING = 19, CHECK = 20, PLAN = 21, IMPORTANCE = 22 };
 enum { LISTS = 11, RING = 9 }; /* of an import, in the header's order */
 
 struct area {
@@ -324,6 +324,22 @@ static void export_call(void)
     reply(answer, written, 1);
 }
 
+static void importance_call(void)
+{
+    struct area *nodes = area(4);
+    size_t events = number(), count = number(), root = number();
+    struct area *chances = area(4), *lows = area(4), *highs = area(4), *rank = area(4), *down = area(4), *up = area(4), *marks = area(4);
+    struct area *answer = answer_area(2);
+    struct matticklet_reply *a = contents(answer);
+    matticklet_importance(contents(nodes), nodes->length, events, count, root, contents(chances), chances->length, contents(lows),
+                          lows->length, contents(highs), highs->length, contents(rank), rank->length, contents(down),
+                          down->length, contents(up), up->length, contents(marks), marks->length, a);
+    if (spoiled == IMPORTANCE && a->number == MATTICKLET_DONE && rank->length > events)
+        ((uint32_t *)contents(rank))[events] ^= 1; /* behind the events */
+    struct area *written[] = { lows, highs, rank, down, up, marks };
+    reply(answer, written, 6);
+}
+
 static void sizes_call(void)
 {
     struct area *cuts = area(4);
@@ -477,6 +493,7 @@ int main(int words, char **word)
         case HOLDING: holding_call(); break;
         case CHECK: check_call(); break;
         case PLAN: plan_call(); break;
+        case IMPORTANCE: importance_call(); break;
         default: fail("no such call");
         }
         if (fflush(stdout) != 0)

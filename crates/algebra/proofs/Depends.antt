@@ -28,7 +28,7 @@ put-swap i e b c v n = set-ext e (put i b (put e c v)) (put e c (put i b v))
     (λ j m. ap (cond (eqb j i) b) (put-other e c v j m) ∙ sym (put-other e c (put i b v) j m))
 
 -- where two tables differ, there is a set where the functions do
-differ : {A : Type 0} (F G : A → Bool) (xs : List A) → map F xs ≢ map G xs → (x : A) × (F x ≢ G x)
+pub differ : {A : Type 0} (F G : A → Bool) (xs : List A) → map F xs ≢ map G xs → (x : A) × (F x ≢ G x)
 differ F G [] h = absurd (h refl)
 differ F G (x ∷ xs) h = go (Bool-discrete (F x) (G x)) (differ F G xs)
   where
@@ -51,7 +51,7 @@ stands-from m n (node e f s) i o h = go (or-cases (eqb i e) (stands i f) (stands
     go (inr (inr q)) a b = omega (arith, o .0, b q)
 
 -- an event that does not stand in a diagram does not matter to it
-stands-not : (d : Diagram) (i : ℕ) (b : Bool) (v : Set) → stands i d ≡ false → eval d (put i b v) ≡ eval d v
+pub stands-not : (d : Diagram) (i : ℕ) (b : Bool) (v : Set) → stands i d ≡ false → eval d (put i b v) ≡ eval d v
 stands-not (leaf c) i b v h = refl
 stands-not (node e f s) i b v h = go (eqb i e) refl (stands i f) refl (stands i s) refl (stands-not f i b v) (stands-not s i b v)
   where
@@ -99,7 +99,7 @@ depends-law n d i o r = (depends-node n 0 d i o r, λ w. go (stands i d) refl w)
 
 -- ---- how many
 
-not-agree : (n : ℕ) (F G : Fun) → (agree n F G ≡ false) ↔ (table n F ≢ table n G)
+pub not-agree : (n : ℕ) (F G : Fun) → (agree n F G ≡ false) ↔ (table n F ≢ table n G)
 not-agree n F G = go (table-discrete (table n F) (table n G))
   where
     go : (d : Dec (table n F ≡ table n G)) → (ite d true false ≡ false) ↔ (table n F ≢ table n G)
@@ -107,7 +107,7 @@ not-agree n F G = go (table-discrete (table n F) (table n G))
     go (no w) = ((λ q. w), λ w. refl)
 
 -- the test says whether an event stands in the diagram
-depends-test : (n : ℕ) (d : Diagram) (i : ℕ) → Ordered 0 n d → Reduced d → depends n (eval d) i ≡ stands i d
+pub depends-test : (n : ℕ) (d : Diagram) (i : ℕ) → Ordered 0 n d → Reduced d → depends n (eval d) i ≡ stands i d
 depends-test n d i o r = bool-iff (depends n (eval d) i) (stands i d) to from
   where
     F : Bool → Fun

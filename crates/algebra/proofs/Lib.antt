@@ -22,6 +22,9 @@ pub mod Least
 pub mod Rules
 pub mod Canon
 pub mod SameChance
+pub mod Restrict
+pub mod Ranking
+pub mod Importance
 pub mod Families
 pub mod Products
 pub mod Reports

@@ -45,10 +45,10 @@ number-slot W (suc zero) h = absurd (omega arith)
 number-slot W (suc (suc k)) h = let q : k ≡ suc (suc k) - 2 = omega arith in ap (λ j. getD W j 0) q
 
 -- a store at slot k changes the number of node k + 2 alone
-stored-here : (W : List ℕ) (i v : ℕ) → 2 ≤ i → i - 2 < length W → numberIn (set W (i - 2) v) i ≡ v
+pub stored-here : (W : List ℕ) (i v : ℕ) → 2 ≤ i → i - 2 < length W → numberIn (set W (i - 2) v) i ≡ v
 stored-here W i v h l = number-slot (set W (i - 2) v) i h ∙ getD-set-same W (i - 2) v 0 l
 
-stored-there : (W : List ℕ) (i j v : ℕ) → 2 ≤ i → (j ≡ i → ⊥) → numberIn (set W (i - 2) v) j ≡ numberIn W j
+pub stored-there : (W : List ℕ) (i j v : ℕ) → 2 ≤ i → (j ≡ i → ⊥) → numberIn (set W (i - 2) v) j ≡ numberIn W j
 unfolding numberIn
 stored-there W i zero v h d = refl
 stored-there W i (suc zero) v h d = refl
@@ -68,26 +68,26 @@ module _ {n : ℕ} {T : List ℕ} {c root : ℕ} {A : List ℕ} (p : Priced n T 
   lower : Lower T c
   lower = lent-lower (p .lent)
 
-  number-node : (i : ℕ) → 2 ≤ i → i < c + 2
+  pub number-node : (i : ℕ) → 2 ≤ i → i < c + 2
       → numberOf r A T i ≡ (chanceIn A (eventOf T i) * numberOf r A T (failedOf T i) + (billion - chanceIn A (eventOf T i)) * numberOf r A T (soundOf T i) + r) / billion
   unfolding numberOf
   number-node i h l = ap (bound billion (chanceIn A) r) (den-node lower i h l)
 
-  number-le : (i : ℕ) → i < c + 2 → numberOf r A T i ≤ billion
+  pub number-le : (i : ℕ) → i < c + 2 → numberOf r A T i ≤ billion
   unfolding numberOf
   number-le =
       den-ind lower (λ i. numberOf r A T i ≤ billion) (rw (den-0 T) (omega arith)) (rw (den-1 T) (omega arith))
       (λ i h l f s. subst (λ x. x ≤ billion) (sym (number-node i h l))
       (mix-le (chanceIn A (eventOf T i)) (numberOf r A T (failedOf T i)) (numberOf r A T (soundOf T i)) r (p .chances .each (eventOf T i) (lent-node (p .lent) h l .event)) f s small))
 
-  -- one node, with the numbers that the code read
-  module _ {W : List ℕ} {i e f s a : ℕ} (qe : e ≡ eventOf T i) (qf : f ≡ failedOf T i) (qs : s ≡ soundOf T i) (qa : a ≡ chanceIn A e)
-      (h : 2 ≤ i) (l : i < c + 2) (w : c ≤ length W) (fill : Filled r A T W i) where
+  -- one node, with the numbers that the code read, where both branches have theirs
+  module _ (W : List ℕ) {i e f s a : ℕ} (qe : e ≡ eventOf T i) (qf : f ≡ failedOf T i) (qs : s ≡ soundOf T i) (qa : a ≡ chanceIn A e)
+      (h : 2 ≤ i) (l : i < c + 2) (w : c ≤ length W) (nf : numberIn W f ≡ numberOf r A T f) (ns : numberIn W s ≡ numberOf r A T s) where
     nd : Node n T i
     nd = lent-node (p .lent) h l
 
-    pub ready : Ready W i f s a r
-    ready =
+    pub ready-by : Ready W i f s a r
+    ready-by =
         let fd = nd .failed in
         let sd = nd .sound in
         let ev = nd .event in
@@ -98,21 +98,34 @@ module _ {n : ℕ} {T : List ℕ} {c root : ℕ} {A : List ℕ} (p : Priced n T 
           sound = omega arith;
           chance = let z = p .chances .each e (omega arith) in omega arith;
           round = small;
-          failed-number = subst (λ v. v ≤ billion) (sym (fill .at f (omega arith))) (number-le f (omega arith));
-          sound-number = subst (λ v. v ≤ billion) (sym (fill .at s (omega arith))) (number-le s (omega arith));
+          failed-number = subst (λ v. v ≤ billion) (sym nf) (number-le f (omega arith));
+          sound-number = subst (λ v. v ≤ billion) (sym ns) (number-le s (omega arith));
         }
 
     -- what is stored is the node's number
-    right : (a * numberIn W f + (billion - a) * numberIn W s + r) / billion ≡ numberOf r A T i
-    right =
-        let fd = nd .failed in
-        let sd = nd .sound in
-        let x : numberIn W f ≡ numberOf r A T (failedOf T i) = fill .at f (omega arith) ∙ ap (numberOf r A T) qf in
-        let y : numberIn W s ≡ numberOf r A T (soundOf T i) = fill .at s (omega arith) ∙ ap (numberOf r A T) qs in
+    pub right-by : (a * numberIn W f + (billion - a) * numberIn W s + r) / billion ≡ numberOf r A T i
+    right-by =
+        let x : numberIn W f ≡ numberOf r A T (failedOf T i) = nf ∙ ap (numberOf r A T) qf in
+        let y : numberIn W s ≡ numberOf r A T (soundOf T i) = ns ∙ ap (numberOf r A T) qs in
         let z : a ≡ chanceIn A (eventOf T i) = qa ∙ ap (chanceIn A) qe in
         ap₂ (λ x y. (a * x + (billion - a) * y + r) / billion) x y
         ∙ ap (λ z. (z * numberOf r A T (failedOf T i) + (billion - z) * numberOf r A T (soundOf T i) + r) / billion) z
         ∙ sym (number-node i h l)
+
+  -- the same where all lower nodes have theirs
+  module _ {W : List ℕ} {i e f s a : ℕ} (qe : e ≡ eventOf T i) (qf : f ≡ failedOf T i) (qs : s ≡ soundOf T i) (qa : a ≡ chanceIn A e)
+      (h : 2 ≤ i) (l : i < c + 2) (w : c ≤ length W) (fill : Filled r A T W i) where
+    at-failed : numberIn W f ≡ numberOf r A T f
+    at-failed = let fd = lent-node (p .lent) h l .failed in fill .at f (omega arith)
+
+    at-sound : numberIn W s ≡ numberOf r A T s
+    at-sound = let sd = lent-node (p .lent) h l .sound in fill .at s (omega arith)
+
+    pub ready : Ready W i f s a r
+    ready = ready-by W qe qf qs qa h l w at-failed at-sound
+
+    right : (a * numberIn W f + (billion - a) * numberIn W s + r) / billion ≡ numberOf r A T i
+    right = right-by W qe qf qs qa h l w at-failed at-sound
 
     pub filled-next : {W′ : List ℕ} → W′ ≡ set W (i - 2) ((a * numberIn W f + (billion - a) * numberIn W s + r) / billion) → Filled r A T W′ (i + 1)
     filled-next {W′} q = subst (λ X. Filled r A T X (i + 1)) (sym q) (record { at = λ j g. go j g (ℕ-discrete j i) })

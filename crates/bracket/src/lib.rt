@@ -30,7 +30,7 @@ pub fn wide(x: u32) -> u64
 }
 
 // The number of node `i` in a work area.
-fn number_in(work: &[u32], i: usize) -> u64
+pub fn number_in(work: &[u32], i: usize) -> u64
     requires { ⌜ (2 ≤ i → i - 2 < length (now work)) ⌝ }
     ensures { λ r. ⌜ r ≡ numberIn (now (work .entry)) i ⌝ }
 {
@@ -53,7 +53,7 @@ fn mixed(a: u64, x: u64, y: u64, round: u64) -> u32
 }
 
 // Stores the number of node `i`, whose branches `f` and `s` have theirs.
-fn fill_node(work: &mut [u32], i: usize, f: usize, s: usize, a: u64, round: u64)
+pub fn fill_node(work: &mut [u32], i: usize, f: usize, s: usize, a: u64, round: u64)
     requires { ⌜ Ready (now work) i f s a round ⌝ }
     ensures { λ _. ⌜ now (work .exit) ≡ set (now (work .entry)) (i - 2) ((a * numberIn (now (work .entry)) f + (billion - a) * numberIn (now (work .entry)) s + round) / billion) ⌝ }
 {
@@ -63,7 +63,7 @@ fn fill_node(work: &mut [u32], i: usize, f: usize, s: usize, a: u64, round: u64)
 }
 
 // One pass over the nodes, from the lowest up: branches have lower numbers, so theirs are there.
-fn fill_all(
+pub fn fill_all(
     nodes: &[u32],
     n: usize,
     count: usize,

@@ -13,6 +13,7 @@ use Rattle.memory.specs.declared.Analysis.{Analysis}
 use Rattle.settings.specs.declared.Judgement.{Judgement}
 use Rattle.equations.specs.declared.Imported.{Imported}
 use Rattle.sizes.specs.declared.Tally.{Tally}
+use Rattle.importance.specs.declared.Reply.{Reply}
 use Rattle.folder.specs.declared.Gathered.{Gathered}
 
 abbrev pub ofReading : Reading → List ℕ
@@ -43,6 +44,9 @@ ofImport a = a .number ∷ a .place ∷ a .line ∷ a .ring ∷ a .tree .«event
 
 abbrev pub ofTally : Tally → List ℕ
 ofTally t = t .number ∷ t .place ∷ []
+
+abbrev pub ofReply : Reply → List ℕ
+ofReply r = r .number ∷ r .place ∷ []
 
 abbrev pub ofGathered : Gathered → List ℕ
 ofGathered g = g .number ∷ g .place ∷ g .tree ∷ []

@@ -4,6 +4,7 @@ mod ending; // an answer whose numbers end in the words of a set
 mod listings; // two listings compared
 mod maintenance; // which events to keep sound
 mod moving; // a tree with sites, and without
+mod ranking; // which event matters most
 mod reporting; // the cuts that the review rule tells
 
 use arrays::events_of;

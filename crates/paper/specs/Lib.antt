@@ -15,6 +15,7 @@ pub mod Listing
 pub mod GoodListing
 pub mod Changes
 pub mod Chance
+pub mod Importance
 pub mod Sizes
 pub mod Reports
 pub mod Planner

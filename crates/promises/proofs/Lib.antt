@@ -16,6 +16,7 @@ pub mod Delivers
 pub mod BySize
 pub mod Report
 pub mod Maintained
+pub mod Matters
 pub mod Old
 pub mod Sites
 pub mod Changed

@@ -6,6 +6,7 @@ pub mod Memo
 pub mod BySize
 pub mod Report
 pub mod Maintained
+pub mod Matters
 pub mod Old
 pub mod Sites
 pub mod Changed

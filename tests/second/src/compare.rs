@@ -4,6 +4,7 @@ use crate::analysis::{Analysis, Lengths};
 use crate::compare_added::{compare_added_list, meet_added, meet_refusal};
 use crate::compare_changes::compare_pairs;
 use crate::compare_equations::{compare_texts, compare_trees};
+use crate::compare_importance::compare_importance;
 use crate::compare_lent::{compare_bracket, compare_list};
 use crate::compare_plans::compare_plans;
 use crate::compare_reports::compare_report;
@@ -89,7 +90,10 @@ fn compare_tree(library: &dyn Library, tree: &Tree, random: &mut Random, tally: 
 
 pub fn compare_diagram(library: &dyn Library, diagram: &Lent, random: &mut Random, tally: &mut Tally) {
     match diagram.sort {
-        Sort::Function => compare_bracket(library, diagram, None, random, tally),
+        Sort::Function => {
+            compare_bracket(library, diagram, None, random, tally);
+            compare_importance(library, diagram, None, random, tally);
+        }
         Sort::Cuts => {
             compare_list(library, diagram, random, tally);
             compare_sizes(library, diagram, random, tally);
@@ -299,7 +303,7 @@ fn compare_tables(done: &Analysis, got: &AnalyseAnswer, memory: &Memory, tally: 
     tally.same("the cut root", Some(done.cuts.root), ours(&map, got.cut_root));
 }
 
-/// The library's own tables lent to its listing, its counting, its report, its bracket and its planner.
+/// The library's own tables lent to its listing, its counting, its report, its bracket, its importance and its planner.
 fn compare_uses(
     library: &dyn Library,
     done: &Analysis,
@@ -324,6 +328,7 @@ fn compare_uses(
     compare_sizes(library, &family, random, tally);
     compare_report(library, &family, Some(chances), random, tally);
     compare_bracket(library, &function, Some(chances), random, tally);
+    compare_importance(library, &function, Some(chances), random, tally);
     if random.once_in(8) {
         // Each taken for the other kind: answered for what it denotes, if it keeps that kind's rules.
         compare_list(library, &Lent { sort: Sort::Cuts, ..function }, random, tally);

@@ -3,6 +3,7 @@
 use crate::arrays::Arrays;
 use crate::changes::{Comparison, Difference, Side, Verdict};
 use crate::equations::LISTS;
+use crate::importance::WEIGH_AREAS;
 use crate::lent::Lent;
 use crate::library::*;
 use crate::planner::HOLDING_AREAS;
@@ -36,6 +37,7 @@ const FIRST_MISSING: u64 = 18;
 const HOLDING: u64 = 19;
 const CHECK: u64 = 20;
 const PLAN: u64 = 21;
+const IMPORTANCE: u64 = 22;
 
 /// What the driver says of a call when every guard and every constant area stands.
 const ALL_STANDS: u64 = 3;
@@ -92,7 +94,7 @@ impl Request {
         request
     }
 
-    /// A cut diagram as it is lent.
+    /// A diagram as it is lent.
     fn diagram(self, diagram: &Lent) -> Request {
         let request = self.numbers(&diagram.table).number(diagram.event_count);
         request.number(diagram.node_count).number(diagram.root)
@@ -314,6 +316,10 @@ impl Library for Driver {
         [2 * (capacity + 2); HOLDING_AREAS]
     }
 
+    fn smallest_weigh_areas(&self, capacity: usize) -> [usize; WEIGH_AREAS] {
+        [capacity, capacity, capacity + 2]
+    }
+
     fn read(&self, bytes: &[u8]) -> ReadAnswer {
         let lent = Arrays::dirty(seed(bytes));
         let mut arrays = lent.clone();
@@ -399,6 +405,15 @@ impl Library for Driver {
 
     fn export(&self, tree: &Tree, room: &mut [u8]) -> WriteAnswer {
         self.written(EXPORT, tree, room)
+    }
+
+    fn importance(&self, diagram: &Lent, chances: &[u32], areas: WeighAreas) -> ImportanceAnswer {
+        let mut all = areas.all();
+        let request = Request::of(IMPORTANCE).diagram(diagram).numbers(chances);
+        let request = all.iter().fold(request, |request, area| request.numbers(area));
+        let mut written: Vec<Area> = all.iter_mut().map(|area| Area::Numbers(area)).collect();
+        let [number, place] = self.ask(request, &mut written);
+        ImportanceAnswer { number: small(number), place }
     }
 
     fn sizes(&self, diagram: &Lent, counting: CountAreas) -> SizesAnswer {

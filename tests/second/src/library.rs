@@ -3,6 +3,7 @@
 
 use crate::changes::{Comparison, Difference, Verdict};
 use crate::equations::LISTS;
+use crate::importance::WEIGH_AREAS;
 use crate::lent::Lent;
 use crate::planner::HOLDING_AREAS;
 use crate::report::REPORT_AREAS;
@@ -67,6 +68,12 @@ pub struct ImportAnswer {
 
 #[derive(Clone, Copy, Debug, PartialEq, Eq)]
 pub struct SizesAnswer {
+    pub number: u32,
+    pub place: u64,
+}
+
+#[derive(Clone, Copy, Debug, PartialEq, Eq)]
+pub struct ImportanceAnswer {
     pub number: u32,
     pub place: u64,
 }
@@ -183,6 +190,31 @@ pub struct HoldingAreas<'a> {
     pub work: [&'a mut [u64]; HOLDING_AREAS],
 }
 
+/// What the importance of events is lent to be written.
+pub struct WeighAreas<'a> {
+    pub lows: &'a mut [u32],
+    pub highs: &'a mut [u32],
+    pub rank: &'a mut [u32],
+    pub work: [&'a mut [u32]; WEIGH_AREAS],
+}
+
+impl<'a> WeighAreas<'a> {
+    /// All of it, in the order of the call.
+    pub fn all(self) -> [&'a mut [u32]; 3 + WEIGH_AREAS] {
+        let WeighAreas { lows, highs, rank, work: [down, up, marks] } = self;
+        [lows, highs, rank, down, up, marks]
+    }
+
+    pub fn again(&mut self) -> WeighAreas<'_> {
+        WeighAreas {
+            lows: self.lows,
+            highs: self.highs,
+            rank: self.rank,
+            work: self.work.each_mut().map(|area| &mut **area),
+        }
+    }
+}
+
 pub trait Library {
     /// The documented smallest lengths of the work areas; an area that isn't asked for has 0.
     fn smallest_areas(&self, node_capacity: usize, cut_capacity: usize) -> [usize; 4];
@@ -191,6 +223,7 @@ pub trait Library {
     fn smallest_report_areas(&self, capacity: usize) -> [usize; REPORT_AREAS];
     fn smallest_missing_area(&self, capacity: usize) -> usize;
     fn smallest_holding_areas(&self, capacity: usize) -> [usize; HOLDING_AREAS];
+    fn smallest_weigh_areas(&self, capacity: usize) -> [usize; WEIGH_AREAS];
 
     fn read(&self, bytes: &[u8]) -> ReadAnswer;
     fn write(&self, tree: &Tree, room: &mut [u8]) -> WriteAnswer;
@@ -213,6 +246,7 @@ pub trait Library {
     fn first_difference(&self, yesterday: &[u8], today: &[u8]) -> Difference;
     fn compare(&self, yesterday: &[u8], today: &[u8]) -> Comparison;
 
+    fn importance(&self, diagram: &Lent, chances: &[u32], areas: WeighAreas) -> ImportanceAnswer;
     fn sizes(&self, diagram: &Lent, counting: CountAreas) -> SizesAnswer;
     fn folder(&self, bytes: &[u8], lengths: &[u64], areas: Areas, counting: CountAreas) -> FolderAnswer;
 

@@ -8,6 +8,7 @@ use second::city;
 use second::equations::{export, name_at, typed, Import};
 use second::folders::Folder;
 use second::generator::{middle_shape, sites, tree, wide_tree};
+use second::importance::importance;
 use second::judge::{read, write, Refusal, OLD_READER, READER};
 use second::listing::{list, Walk};
 use second::moves::{from_sites, to_sites};
@@ -41,6 +42,7 @@ second report FILE EDITION     the cuts that are reportable under an edition of 
 second season FILE STORE EDITION  the cuts and the root's chance under the settings of an edition
 second store SETTING..         a store's bytes: settings as 2:7:failed, edition, event, and free, failed or sound
 second plan FILE [NAME..]      of typed equations what to keep sound: a proposal, or these names, checked
+second importance FILE         how much each event matters, the most first
 second city SIZE               the equations of a city-like tree: small, middle, large, or wide of 900 events
 second random SEED [wide|sited]  the bytes of a seeded tree of middle size, or of 255 to 1,024 events, or with sites
 a FILE of - is the standard input";
@@ -97,6 +99,7 @@ fn main() {
         "at" => at(&bytes, &words[2..], out),
         "sizes" => by_size(&words[1..], out),
         "plan" => planned(&bytes, &words[2..], out),
+        "importance" => weighed(&bytes, out),
         "report" => reviewed(&bytes, words.get(2).map_or(0, number) as u32, out),
         "season" if words.len() == 4 => in_season(&bytes, &contents(&words[2]), number(&words[3]) as u16, out),
         other => {
@@ -344,6 +347,19 @@ fn planned(text: &[u8], names: &[String], out: &mut dyn Write) -> io::Result<()>
             }
         }
     }
+}
+
+fn weighed(bytes: &[u8], out: &mut dyn Write) -> io::Result<()> {
+    let done = match analyse(bytes, Lengths::AMPLE) {
+        Ok(done) => done,
+        Err(Refusal { number, place }) => return writeln!(out, "refused {number} at {place}"),
+    };
+    let weights = importance(&done.lent_function(), &done.tree.chances, true).expect("a built diagram is weighed");
+    for event in weights.rank {
+        let (low, high) = (weights.lows[event as usize], weights.highs[event as usize]);
+        writeln!(out, "event {event}: {low} to {high} billionths")?;
+    }
+    Ok(())
 }
 
 fn by_size(files: &[String], out: &mut dyn Write) -> io::Result<()> {

@@ -5,6 +5,7 @@ use crate::analysis::{analyse, Analysis, Lengths};
 use crate::bracket::bracket;
 use crate::changes::{self, Comparison, Difference, Verdict};
 use crate::equations::{export_into, import, Import, LISTS, RING, SHOWN};
+use crate::importance::{importance, WEIGH_AREAS};
 use crate::judge::{read, write_into, Refusal};
 use crate::lent::Lent;
 use crate::library::*;
@@ -189,6 +190,10 @@ impl Library for Mirror {
         [2 * (capacity + 2); HOLDING_AREAS]
     }
 
+    fn smallest_weigh_areas(&self, capacity: usize) -> [usize; WEIGH_AREAS] {
+        [capacity + 2; WEIGH_AREAS]
+    }
+
     fn read(&self, bytes: &[u8]) -> ReadAnswer {
         match read(bytes) {
             Ok(tree) => ReadAnswer { number: 0, place: 0, tree },
@@ -253,6 +258,23 @@ impl Library for Mirror {
 
     fn export(&self, tree: &Tree, room: &mut [u8]) -> WriteAnswer {
         told(export_into(tree, room))
+    }
+
+    fn importance(&self, diagram: &Lent, chances: &[u32], areas: WeighAreas) -> ImportanceAnswer {
+        let events = diagram.event_count as usize;
+        let smallest = self.smallest_weigh_areas(diagram.table.len() / 3);
+        let suffice = [&areas.lows, &areas.highs, &areas.rank].iter().all(|list| list.len() >= events)
+            && areas.work.iter().zip(smallest).all(|(area, least)| area.len() >= least);
+        match importance(diagram, chances, suffice) {
+            Err(Refusal { number, place }) => ImportanceAnswer { number, place },
+            Ok(weights) => {
+                areas.lows[..events].copy_from_slice(&weights.lows);
+                areas.highs[..events].copy_from_slice(&weights.highs);
+                areas.rank[..events].copy_from_slice(&weights.rank);
+                areas.work.into_iter().for_each(|area| area.fill(0));
+                ImportanceAnswer { number: 0, place: 0 }
+            }
+        }
     }
 
     fn sizes(&self, diagram: &Lent, counting: CountAreas) -> SizesAnswer {

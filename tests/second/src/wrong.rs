@@ -4,6 +4,7 @@ use crate::analysis::{analyse_tree, Lengths};
 use crate::changes::{Comparison, Difference, Verdict};
 use crate::cut_diagram::CutDiagram;
 use crate::equations::LISTS;
+use crate::importance::WEIGH_AREAS;
 use crate::judge::{read, write};
 use crate::lent::Lent;
 use crate::library::*;
@@ -18,12 +19,14 @@ use crate::tree::*;
 use crate::wrong_added::wrong_added;
 use crate::wrong_changes::{wrong_compare, wrong_difference, wrong_side};
 use crate::wrong_equations::{wrong_export, wrong_import};
+use crate::wrong_importance::{is_of_importance, wrong_importance};
 use crate::wrong_lent::{wrong_bracket, wrong_list};
 use crate::wrong_plans::*;
 use crate::wrong_report::{is_of_reports, wrong_report};
 use crate::wrong_seasons::{is_of_seasons, wrong_chances, wrong_season};
 use crate::wrong_sites::*;
 use crate::wrong_sizes::{wrong_folder, wrong_sizes};
+use crate::wrong_steps::{other_steps, sort_inputs};
 use crate::wrong_twins::{counted, wrong_read, wrong_write};
 use crate::wrong_wide::{wide_list, wide_read, wide_write};
 
@@ -333,6 +336,25 @@ wrongs! {
     ExportRefusesSites,
     ExportRefusesLostSites,
     ExportsThePlaceOfTheOldForm,
+    // Importance.
+    PlainDifferenceOfUnused,
+    UnreachedStand,
+    LowLessLow,
+    HighLessHigh,
+    AbsoluteDifference,
+    LowNotCutOff,
+    TiesToTheHigher,
+    RankedByHigh,
+    RankedFromTheLeast,
+    PlacesForTheRank,
+    UnusedLeftOut,
+    ZerosBehindTheRank,
+    ZerosBehindTheLows,
+    WeighingAreaLeftDirty,
+    WeighingClearsOnSeven,
+    SevenBeforeNineOfWeights,
+    ChancesOfNodesJudged,
+    ChancesBehindJudged,
     // Sizes.
     UnreachedOverflowRefuses,
     LargestRefused,
@@ -479,6 +501,10 @@ impl Library for WrongProgram {
 
     fn smallest_holding_areas(&self, capacity: usize) -> [usize; HOLDING_AREAS] {
         Mirror.smallest_holding_areas(capacity)
+    }
+
+    fn smallest_weigh_areas(&self, capacity: usize) -> [usize; WEIGH_AREAS] {
+        Mirror.smallest_weigh_areas(capacity)
     }
 
     fn read(&self, bytes: &[u8]) -> ReadAnswer {
@@ -633,6 +659,13 @@ impl Library for WrongProgram {
         wrong_compare(self.0, yesterday, today)
     }
 
+    fn importance(&self, diagram: &Lent, chances: &[u32], areas: WeighAreas) -> ImportanceAnswer {
+        match is_of_importance(self.0) {
+            true => wrong_importance(self.0, diagram, chances, areas),
+            false => Mirror.importance(diagram, chances, areas),
+        }
+    }
+
     fn sizes(&self, diagram: &Lent, counting: CountAreas) -> SizesAnswer {
         wrong_sizes(self.0, diagram, counting)
     }
@@ -668,39 +701,4 @@ impl Library for WrongProgram {
             false => Mirror.plan(diagram, work),
         }
     }
-}
-
-fn sort_inputs(tree: &mut Tree) {
-    let mut start = 0;
-    for gate in &tree.gates {
-        let end = start + gate.n as usize;
-        tree.inputs[start..end].sort();
-        start = end;
-    }
-}
-
-/// The same functions by other steps.
-fn other_steps(wrong: Wrong, bytes: &[u8]) -> Option<Vec<u8>> {
-    let mut tree = read(bytes).ok()?;
-    match wrong {
-        OrForAtLeastOne => {
-            for gate in tree.gates.iter_mut().filter(|gate| gate.kind == AT_LEAST) {
-                if gate.k == 1 {
-                    gate.kind = OR;
-                } else if gate.k == gate.n {
-                    gate.kind = AND;
-                }
-            }
-        }
-        JoinsFromTheRight => {
-            let mut start = 0;
-            for gate in &tree.gates {
-                let end = start + gate.n as usize;
-                tree.inputs[start..end].reverse();
-                start = end;
-            }
-        }
-        _ => return None,
-    }
-    write(&tree).ok()
 }

@@ -2,6 +2,7 @@
 
 use second::compare::compare_input;
 use second::compare_added::compare_added;
+use second::compare_importance::compare_weights;
 use second::compare_large::compare_twins;
 use second::compare_plans::compare_maintenance;
 use second::compare_reports::compare_reviews;
@@ -13,6 +14,7 @@ use second::mirror::Mirror;
 use second::random::Random;
 use second::tally::Tally;
 use second::wrong::{Wrong, WrongProgram, ALL};
+use second::wrong_importance::is_of_importance;
 use second::wrong_plans::is_of_plans;
 use second::wrong_report::is_of_reports;
 use second::wrong_seasons::is_of_seasons;
@@ -44,6 +46,7 @@ fn the_mirror_passes() {
     assert_eq!(numbers("list"), [0, 12, 13, 14]);
     assert_eq!(numbers("report"), [0, 7, 9, 12, 13, 14, 23]);
     assert_eq!(numbers("bracket"), [0, 7, 9, 12]);
+    assert_eq!(numbers("importance"), [0, 7, 9, 12]);
     assert_eq!(numbers("import"), [0, 4, 5, 7, 9, 15, 16, 17, 18]);
     assert_eq!(numbers("export"), [0, 2, 4, 5, 6, 7, 8, 9]);
     assert_eq!(numbers("sizes"), [0, 9, 12, 19]);
@@ -216,6 +219,14 @@ fn plans_are_told_apart() {
     let own: Vec<Wrong> = ALL.iter().copied().filter(|&wrong| is_of_plans(wrong)).collect();
     assert_eq!(own.len(), 53);
     told_apart(compare_maintenance, &own);
+}
+
+/// Every wrong program about the importance of events.
+#[test]
+fn importances_are_told_apart() {
+    let own: Vec<Wrong> = ALL.iter().copied().filter(|&wrong| is_of_importance(wrong)).collect();
+    assert_eq!(own.len(), 18);
+    told_apart(compare_weights, &own);
 }
 
 #[test]
