@@ -44,6 +44,7 @@ static struct matticklet_gathered gathered;
 static struct matticklet_export exported;
 static struct matticklet_import imported;
 static struct matticklet_comparison comparison;
+static struct matticklet_decided decided;
 
 /* so many gates of this kind, the events shared out among them, and a root over them, of the same kind or at least k of them */
 static void make(uint8_t kind, int parts, uint8_t k)
@@ -129,6 +130,7 @@ static void importance(void)
                           MATTICKLET_EVENTS, rank, MATTICKLET_EVENTS, heads, AREA, next, AREA, marks, AREA, &weighed);
 }
 static void compare(void) { matticklet_compare(room, listing.used, room, listing.used, &comparison); }
+static void decides(void) { matticklet_decides(room, listing.used, reading.events, listing.last, &decided); }
 static void folder(void)
 {
     matticklet_folder(tree, tree_length, &tree_length, 1, nodes, 3 * CAPACITY, cuts, 3 * CAPACITY, gates, MATTICKLET_GATES, memo, memo_length, heads, AREA,
@@ -188,6 +190,7 @@ int main(void)
         bad |= say("chances under", chances_under, base, &settings.number);
         bad |= say("list", list, base, &listing.number);
         bad |= say("compare", compare, base, &comparison.number);
+        bad |= say("decides", decides, base, &decided.number);
         bad |= say("bracket", bracket, base, &ends.number);
         bad |= say("report", report, base, &reported.number);
         bad |= say("importance", importance, base, &weighed.number);

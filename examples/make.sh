@@ -5,6 +5,7 @@
 # corridor.store has the settings of corridor.settings, and corridor.seasons what c/season prints of the corridor under its editions.
 # corridor_sites is the corridor with the sites of corridor.sites. corridor.reports has what c/report prints under editions 1 and 2, and 3, which is refused.
 # corridor.plan has what c/plan prints: a proposal, checked; a set that is not enough; a name that there is not. trees.importance has what c/importance prints of three trees.
+# decisions.out has what c/decide prints of the listings and sets in decisions: NAME.listing are the bytes of a listing, corridor_winter's under edition 1, torn's without their last byte.
 set -e
 cd "$(dirname "$0")"
 cargo build --release --offline --quiet -j1 --manifest-path ../tests/second/Cargo.toml
@@ -28,3 +29,11 @@ for edition in 1 2 3 4; do $second season corridor.tree corridor.store $edition;
 $second sizes metropolis.tree > metropolis.sizes
 for tree in case1 corridor european1; do $second importance $tree.tree; done > trees.importance
 $second sizes case1.tree corridor.tree european1.tree > folder.sizes
+for tree in case1 corridor; do $second listing $tree.tree > $tree.listing; done
+$second listing corridor.tree corridor.store 1 > corridor_winter.listing
+head -c 9 case1.listing > torn.listing
+while read -r listing events failed; do
+    echo "$listing of $events events:${failed:+ $failed}"
+    # shellcheck disable=SC2086 # a word for each event
+    $second decide $listing.listing "$events" $failed
+done < decisions > decisions.out

@@ -501,6 +501,22 @@ struct matticklet_comparison {
 void matticklet_compare(const uint8_t *yesterday, size_t yesterday_length, const uint8_t *today, size_t today_length,
                         struct matticklet_comparison *answer);
 
+/* The decision by the list alone: for whoever has a listing, and neither the tree nor its tables. */
+
+struct matticklet_decided {
+    uint64_t number; /* 0, 13 or 20 */
+    uint64_t place;  /* 0 */
+    uint64_t fails;  /* 1 exactly if some listed cut has all its members in the set; 0 in a refusal */
+};
+
+/* Whether a set of failures contains a cut of a listing: 20 where the listing is not good, as matticklet_compare judges it, then 13 where the set has an event from
+ * `events` on. The listing is judged to its last byte before anything is said: a cut in the set does not excuse a fault behind it. Any number of events is
+ * answered; that a listed cut has a member beyond them is no fault. Where the bytes are those of a done analysis, room behind room up to the one that is finished,
+ * `fails` says whether the root fails when exactly the events of the set fail; after matticklet_analyse_season the root with its forced events as they are forced.
+ * A listing without a cut is that of a root that can't fail, and `22` alone that of one that always fails. No memory is needed, and the time grows with the bytes. */
+void matticklet_decides(const uint8_t *listing, size_t listing_length, size_t events,
+                        const uint64_t set[MATTICKLET_SET_WORDS], struct matticklet_decided *answer);
+
 #ifdef __cplusplus
 }
 #endif

@@ -18,6 +18,7 @@ enum { GUARDS_STAND = 1, CONST_AREAS_STAND = 2 };
 enum { READ = 1, WRITE = 2, ANALYSE = 3, LIST = 4, BRACKET = 5, IMPORT = 6, EXPORT = 7, SIZES = 8, FOLDER = 9 };
 enum { SIDE = 10, FIRST_DIFFERENCE = 11, COMPARE = 12, TO_SITES = 13, FROM_SITES = 14, REPORT = 15, ANALYSE_SEASON = 16, CHANCES_UNDER = 17 };
 enum { FIRST_MISSING = 18, HOLDING = 19, CHECK = 20, PLAN = 21, IMPORTANCE = 22 };
+enum { DECIDES = 23 };
 enum { LISTS = 11, RING = 9 }; /* of an import, in the header's order */
 
 struct area {
@@ -463,6 +464,19 @@ static void plan_call(void)
     reply(answer, written, 2);
 }
 
+static void decides_call(void)
+{
+    struct area *listing = area(1);
+    size_t events = number();
+    struct area *set = area(8);
+    struct area *answer = answer_area(3);
+    struct matticklet_decided *a = contents(answer);
+    matticklet_decides(contents(listing), listing->length, events, contents(set), a);
+    if (spoiled == DECIDES && a->fails && listing->length > 12)
+        a->fails = 2; /* how often, and not whether */
+    reply(answer, NULL, 0);
+}
+
 int main(int words, char **word)
 {
     uint64_t call;
@@ -494,6 +508,7 @@ int main(int words, char **word)
         case CHECK: check_call(); break;
         case PLAN: plan_call(); break;
         case IMPORTANCE: importance_call(); break;
+        case DECIDES: decides_call(); break;
         default: fail("no such call");
         }
         if (fflush(stdout) != 0)

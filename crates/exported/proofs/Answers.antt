@@ -16,9 +16,10 @@ use Rattle.records.specs.declared.Event.{Event}
 use Rattle.records.specs.declared.Reading.{Reading}
 use Rattle.records.specs.declared.Tree.{Tree}
 use Rattle.report.specs.declared.Reported.{Reported}
+use Rattle.decision.specs.declared.Decided.{Decided}
 use Rattle.arrays.specs.Chances.{chancesOf, sitesOf, eventsOf}
 use Rattle.exported.specs.Arrays.{Arrays, arrays, arraysOf, treeFrom, filled, after}
-use Rattle.exported.specs.Numbers.{ofReading, ofWriting, ofReport}
+use Rattle.exported.specs.Numbers.{ofReading, ofWriting, ofReport, ofDecided}
 
 -- ---- the arrays of a tree
 
@@ -65,3 +66,6 @@ listed {number} {place} {count} {used} f {last} e = e ∙ ap (λ (x : ℕ). numb
 
 pub reported : (r : Reported) {answer : List ℕ} → answer ≡ (r .number ∷ r .place ∷ r .edition ∷ r .count ∷ r .used ∷ boolByte (r .finished) ∷ []) ++ r .last → answer ≡ ofReport r
 reported r e = e ∙ ap (λ (x : ℕ). r .number ∷ r .place ∷ r .edition ∷ r .count ∷ r .used ∷ x ∷ r .last) (flag (r .finished))
+
+pub decided : (d : Decided) → d .number ∷ d .place ∷ boolByte (d .fails) ∷ [] ≡ ofDecided d
+decided d = ap (λ (x : ℕ). d .number ∷ d .place ∷ x ∷ []) (flag (d .fails))

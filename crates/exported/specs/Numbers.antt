@@ -15,6 +15,7 @@ use Rattle.equations.specs.declared.Imported.{Imported}
 use Rattle.sizes.specs.declared.Tally.{Tally}
 use Rattle.importance.specs.declared.Reply.{Reply}
 use Rattle.folder.specs.declared.Gathered.{Gathered}
+use Rattle.decision.specs.declared.Decided.{Decided}
 
 abbrev pub ofReading : Reading → List ℕ
 ofReading r = verdict (r .answer) .number ∷ verdict (r .answer) .place ∷ r .tree .«event_count» ∷ r .tree .«gate_count» ∷ cond (r .tree .sited) 1 0 ∷ []
@@ -50,3 +51,6 @@ ofReply r = r .number ∷ r .place ∷ []
 
 abbrev pub ofGathered : Gathered → List ℕ
 ofGathered g = g .number ∷ g .place ∷ g .tree ∷ []
+
+abbrev pub ofDecided : Decided → List ℕ
+ofDecided d = d .number ∷ d .place ∷ cond (d .fails) 1 0 ∷ []

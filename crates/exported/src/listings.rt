@@ -1,4 +1,4 @@
-// Two listings compared, for other languages.
+// Two listings compared, and a set of failures decided by one, for other languages.
 use sidebyside::Difference;
 use sidebyside::Which;
 ghost use mathlib.Core.Path.{_≡_};
@@ -8,6 +8,9 @@ ghost use Rattle.sidebyside.specs.declared.Difference.{Difference};
 ghost use Rattle.sidebyside.specs.declared.Which.{Which};
 ghost use Rattle.changes.specs.Answers.{Sides, Compares};
 ghost use Rattle.changes.specs.declared.Compared.{Compared};
+ghost use Rattle.decision.specs.Answers.{Decides};
+ghost use Rattle.decision.specs.declared.Decided.{Decided};
+ghost use Rattle.exported.specs.Numbers.{ofDecided};
 ghost use Rattle.exported.specs.TwoListings.{ofSide, ofStretch, ofDifference, ofCompared};
 
 // Whose the first cut is that stands in one listing only, or the fault. The answer: number, place, side.
@@ -76,4 +79,18 @@ pub extern "C" fn matticklet_compare(yesterday: &[u8], today: &[u8], answer: &mu
         c.new as u64,
         c.kept as u64,
     ];
+}
+
+// Whether a set of failed events contains a cut of a listing. The answer: number, place, fails.
+#[no_mangle]
+pub extern "C" fn matticklet_decides(
+    listing: &[u8],
+    events: usize,
+    s: &[u64; sets::WORDS],
+    answer: &mut [u64; 3],
+)
+    ensures { λ _. ⌜ ((d : Decided) × (Decides (now (listing .entry)) events (now (s .entry)) (d .number) (d .place) (d .fails) × (now (answer .exit) ≡ ofDecided d))) ⌝ }
+{
+    let d = decision::decides(listing, events, *s);
+    *answer = [d.number as u64, d.place as u64, d.fails as u64];
 }

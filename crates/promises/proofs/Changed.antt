@@ -55,7 +55,7 @@ module _ {n : ℕ} {T : List ℕ} {c root : ℕ} {begin : Bool} {ws : List ℕ} 
   answered-lent (Answered.short v ok s x) = v
   answered-lent (Answered.done v ok s x) = v
 
-  joined-lent : {bytes : List ℕ} → Joined n T c root begin ws bytes → Lent true n T c root
+  pub joined-lent : {bytes : List ℕ} → Joined n T c root begin ws bytes → Lent true n T c root
   joined-lent (Joined.ends x) = answered-lent x
   joined-lent (Joined.goes x j) = answered-lent x
 

@@ -21,3 +21,4 @@ pub mod Old
 pub mod Sites
 pub mod Changed
 pub mod Season
+pub mod ListAlone

@@ -1,4 +1,4 @@
--- Why an analysis answers as it does, when two outcomes are the same, the three promises of an analysis in one, its cuts by size, its report, and what sites are to it.
+-- Why an analysis answers as it does, when two outcomes are the same, the three promises of an analysis in one, its cuts by size, its report, what sites are to it, and what its list says alone.
 pub mod Reasons
 pub mod Coincide
 pub mod Delivers
@@ -11,3 +11,4 @@ pub mod Old
 pub mod Sites
 pub mod Changed
 pub mod Season
+pub mod ListAlone

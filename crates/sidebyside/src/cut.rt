@@ -73,7 +73,7 @@ fn rank(s: &[u8], i: usize) -> usize
 }
 
 // The same where a whole cut is known to stand: nothing is judged.
-fn member(s: &[u8], i: usize) -> usize
+pub fn member(s: &[u8], i: usize) -> usize
     requires { ⌜ Whole (now s) i ⌝ }
     ensures { λ r. ⌜ Ranks (now (s .entry)) i r ⌝ }
 {
@@ -87,7 +87,7 @@ fn member(s: &[u8], i: usize) -> usize
 }
 
 // The bytes of a member's record.
-fn width(e: usize) -> usize
+pub fn width(e: usize) -> usize
     ensures { λ r. ⌜ r ≡ length (memberBytes (e ∷ [])) ⌝ }
 {
     if FIRST_WIDE <= e {

@@ -1,5 +1,5 @@
 // Two cut listings walked side by side, in one pass: each judged cut by cut, where they first differ, and how many cuts each has alone.
-mod cut; // one cut, and two beside each other
+pub mod cut; // one cut, and two beside each other
 
 use cut::Earlier;
 use cut::first_end;

@@ -3,6 +3,7 @@
 use crate::analysis::{Analysis, Lengths};
 use crate::compare_added::{compare_added_list, meet_added, meet_refusal};
 use crate::compare_changes::compare_pairs;
+use crate::compare_decisions::{compare_any_listings, compare_decisions};
 use crate::compare_equations::{compare_texts, compare_trees};
 use crate::compare_importance::compare_importance;
 use crate::compare_lent::{compare_bracket, compare_list};
@@ -44,6 +45,7 @@ pub fn compare_input(library: &dyn Library, seed: u64, tally: &mut Tally) {
         4 => {
             compare_writing(library, &tree_in_memory(random), random, tally);
             compare_pairs(library, random, tally);
+            compare_any_listings(library, random, tally);
         }
         5..=9 => {
             let shape = small_shape(random);
@@ -247,6 +249,12 @@ pub fn compare_analysis_when(
             let own = &done.tree.chances;
             let chances = season.map_or(Ok(own.clone()), |season| chances_under(season, own)).expect("it is accepted");
             compare_uses(library, &done, &chances, &got, tables, random, tally);
+            if random.once_in(3) {
+                let (table, root) = (tables.1.to_vec(), got.cut_root as u64);
+                let (event_count, node_count) = (done.tree.event_count, got.cut_nodes);
+                let family = Lent { sort: Sort::Cuts, event_count, table, node_count, root };
+                compare_decisions(library, &done, &family, season, random, tally);
+            }
         }
     }
 }

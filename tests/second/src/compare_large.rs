@@ -1,10 +1,11 @@
-//! The fixed inputs of every run: requests 3, 6, 7, 8, 9, 10, 11 and 12 case by case, trees of known numbers at exact capacities, the longest bytes, the limits of lengths.
+//! The fixed inputs of every run: requests 3, 6, 7, 8, 9, 10, 11, 12 and 13 case by case, trees of known numbers at exact capacities, the longest bytes, the limits of lengths.
 
 use crate::analysis::{analyse, Lengths};
 use crate::city::{self, city};
 use crate::compare::{compare_analysis_in, compare_diagram, compare_reading};
 use crate::compare_added::compare_added;
 use crate::compare_changes::{case_1, compare_listings};
+use crate::compare_decisions::compare_decided;
 use crate::compare_equations::{compare_export, compare_import};
 use crate::compare_importance::compare_weights;
 use crate::compare_lent::one_listing;
@@ -40,6 +41,7 @@ pub fn compare_large(library: &dyn Library, tally: &mut Tally) {
     compare_seasons(library, random, tally);
     compare_maintenance(library, random, tally);
     compare_weights(library, random, tally);
+    compare_decided(library, random, tally);
     compare_named(library, "European 1", &european_1(), random, tally);
     compare_named(library, "a small city", &city(city::SMALL), random, tally);
     compare_named(library, "a middle city", &city(city::MIDDLE), random, tally);

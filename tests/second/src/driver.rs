@@ -38,6 +38,7 @@ const HOLDING: u64 = 19;
 const CHECK: u64 = 20;
 const PLAN: u64 = 21;
 const IMPORTANCE: u64 = 22;
+const DECIDES: u64 = 23;
 
 /// What the driver says of a call when every guard and every constant area stands.
 const ALL_STANDS: u64 = 3;
@@ -447,6 +448,12 @@ impl Library for Driver {
         let [number, place, side, gone, new, kept] = self.of_listings(COMPARE, yesterday, today);
         let verdict = self.verdict(number, place, side);
         Comparison { verdict, gone: gone as usize, new: new as usize, kept: kept as usize }
+    }
+
+    fn decides(&self, listing: &[u8], events: u64, set: &Set) -> DecidedAnswer {
+        let request = Request::of(DECIDES).bytes(listing).number(events).words(&set.0);
+        let [number, place, fails] = self.ask(request, &mut []);
+        DecidedAnswer { number: small(number), place, fails: self.flag(fails) }
     }
 
     fn first_missing(&self, diagram: &Lent, set: Set, some: &mut [u32]) -> MissedAnswer {

@@ -141,6 +141,14 @@ pub struct PlanAnswer {
     pub set: Set,
 }
 
+/// `fails` is false in a refusal.
+#[derive(Clone, Copy, Debug, PartialEq, Eq)]
+pub struct DecidedAnswer {
+    pub number: u32,
+    pub place: u64,
+    pub fails: bool,
+}
+
 /// What an analysis is lent, and a folder too; an analysis has one list more.
 pub struct Areas<'a> {
     pub nodes: &'a mut [u32],
@@ -245,6 +253,8 @@ pub trait Library {
     fn side(&self, yesterday: &[u8], today: &[u8]) -> Verdict;
     fn first_difference(&self, yesterday: &[u8], today: &[u8]) -> Difference;
     fn compare(&self, yesterday: &[u8], today: &[u8]) -> Comparison;
+    /// Whether the set contains a cut of the listing.
+    fn decides(&self, listing: &[u8], events: u64, set: &Set) -> DecidedAnswer;
 
     fn importance(&self, diagram: &Lent, chances: &[u32], areas: WeighAreas) -> ImportanceAnswer;
     fn sizes(&self, diagram: &Lent, counting: CountAreas) -> SizesAnswer;

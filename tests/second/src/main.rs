@@ -5,6 +5,7 @@ use second::bracket::{bracket, events_reached};
 use second::brute;
 use second::brute_cuts;
 use second::city;
+use second::decision::decides;
 use second::equations::{export, name_at, typed, Import};
 use second::folders::Folder;
 use second::generator::{middle_shape, sites, tree, wide_tree};
@@ -17,10 +18,10 @@ use second::program::{program, report};
 use second::random::Random;
 use second::report::{refusal, reportable_cuts};
 use second::sets::Set;
-use second::settings::{analyse_season, chances_under, Season, Setting, State};
+use second::settings::{analyse_season, analyse_when, chances_under, Season, Setting, State};
 use second::sizes::{folder, RefusedFolder};
 use second::stores::store_of;
-use second::tree::Tree;
+use second::tree::{Tree, MOST_EVENTS};
 use std::io::{self, Read, Write};
 use std::process::exit;
 
@@ -43,6 +44,8 @@ second season FILE STORE EDITION  the cuts and the root's chance under the setti
 second store SETTING..         a store's bytes: settings as 2:7:failed, edition, event, and free, failed or sound
 second plan FILE [NAME..]      of typed equations what to keep sound: a proposal, or these names, checked
 second importance FILE         how much each event matters, the most first
+second listing FILE [STORE EDITION]  the bytes of a tree's listing, free or under the settings of an edition
+second decide LISTING EVENTS [EVENT..]  whether the root fails where these events do, by the bytes of a listing
 second city SIZE               the equations of a city-like tree: small, middle, large, or wide of 900 events
 second random SEED [wide|sited]  the bytes of a seeded tree of middle size, or of 255 to 1,024 events, or with sites
 a FILE of - is the standard input";
@@ -100,6 +103,8 @@ fn main() {
         "sizes" => by_size(&words[1..], out),
         "plan" => planned(&bytes, &words[2..], out),
         "importance" => weighed(&bytes, out),
+        "listing" if [2, 4].contains(&words.len()) => listed(&bytes, &words[2..], out),
+        "decide" if words.len() > 2 => decided(&bytes, number(&words[2]) as u64, &words[3..], out),
         "report" => reviewed(&bytes, words.get(2).map_or(0, number) as u32, out),
         "season" if words.len() == 4 => in_season(&bytes, &contents(&words[2]), number(&words[3]) as u16, out),
         other => {
@@ -346,6 +351,27 @@ fn planned(text: &[u8], names: &[String], out: &mut dyn Write) -> io::Result<()>
                 set = without(set, member);
             }
         }
+    }
+}
+
+fn listed(bytes: &[u8], when: &[String], out: &mut dyn Write) -> io::Result<()> {
+    let store = when.first().map(|file| contents(file));
+    let season = store.as_ref().map(|store| Season { store, edition: number(&when[1]) as u16 });
+    match analyse_when(season, bytes, Lengths::AMPLE) {
+        Ok(done) => out.write_all(&list(&done.lent_cuts(), None, usize::MAX).bytes),
+        Err(Refusal { number, place }) => writeln!(out, "refused {number} at {place}"),
+    }
+}
+
+fn decided(listing: &[u8], events: u64, failed: &[String], out: &mut dyn Write) -> io::Result<()> {
+    let failed: Vec<u32> = failed.iter().map(|word| number(word) as u32).collect();
+    // An event that no set can hold is beyond all events, too.
+    let set = Set::of(&failed.iter().map(|&event| event.min(MOST_EVENTS as u32 - 1)).collect::<Vec<_>>());
+    let events = if failed.iter().any(|&event| event >= MOST_EVENTS as u32) { 0 } else { events };
+    match decides(listing, events, &set) {
+        Ok(true) => writeln!(out, "the root fails"),
+        Ok(false) => writeln!(out, "the root does not fail"),
+        Err(Refusal { number, .. }) => writeln!(out, "refused {number}"),
     }
 }
 

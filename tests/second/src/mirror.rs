@@ -4,6 +4,7 @@
 use crate::analysis::{analyse, Analysis, Lengths};
 use crate::bracket::bracket;
 use crate::changes::{self, Comparison, Difference, Verdict};
+use crate::decision::decides;
 use crate::equations::{export_into, import, Import, LISTS, RING, SHOWN};
 use crate::importance::{importance, WEIGH_AREAS};
 use crate::judge::{read, write_into, Refusal};
@@ -100,6 +101,14 @@ pub fn told_judgement(judged: Result<Judgement, u32>) -> CheckAnswer {
 /// What is answered where a set is proposed.
 pub fn told_plan(planned: Result<Set, u32>) -> PlanAnswer {
     PlanAnswer { number: planned.err().unwrap_or(0), place: 0, set: planned.unwrap_or(Set::EMPTY) }
+}
+
+/// What is answered of a set that a listing decides.
+pub fn told_decision(decided: Result<bool, Refusal>) -> DecidedAnswer {
+    match decided {
+        Ok(fails) => DecidedAnswer { number: 0, place: 0, fails },
+        Err(Refusal { number, place }) => DecidedAnswer { number, place, fails: false },
+    }
 }
 
 /// What an analysis leaves and answers, of whichever program.
@@ -308,6 +317,10 @@ impl Library for Mirror {
 
     fn compare(&self, yesterday: &[u8], today: &[u8]) -> Comparison {
         changes::compare(yesterday, today)
+    }
+
+    fn decides(&self, listing: &[u8], events: u64, set: &Set) -> DecidedAnswer {
+        told_decision(decides(listing, events, set))
     }
 
     fn first_missing(&self, diagram: &Lent, set: Set, some: &mut [u32]) -> MissedAnswer {

@@ -18,6 +18,7 @@ use crate::sizes::COUNT_AREAS;
 use crate::tree::*;
 use crate::wrong_added::wrong_added;
 use crate::wrong_changes::{wrong_compare, wrong_difference, wrong_side};
+use crate::wrong_decisions::{is_of_decisions, wrong_decision};
 use crate::wrong_equations::{wrong_export, wrong_import};
 use crate::wrong_importance::{is_of_importance, wrong_importance};
 use crate::wrong_lent::{wrong_bracket, wrong_list};
@@ -472,6 +473,49 @@ wrongs! {
     GoneTakenForNew,
     KeptByPosition,
     CountsInARefusal,
+    // Decided by the listing alone.
+    TouchesForContains,
+    PartOfACut,
+    EqualToACut,
+    EveryCutContained,
+    LastCutUnseen,
+    FirstCutUnseen,
+    LastCutDecides,
+    CutsBehindTheHundredthUnseen,
+    LastMemberUnseen,
+    FirstMemberUnseen,
+    WideMembersUnseen,
+    WideMembersByTheLowByte,
+    LastWordUnseen,
+    ComplementTaken,
+    NoCutAlwaysFails,
+    EmptyCutNeverFails,
+    SetThatFailsNothing,
+    ThirteenBeforeTwenty,
+    BeyondPasses,
+    BeyondByOnePasses,
+    BeyondOfLowWords,
+    EventsByTheLowBits,
+    NoEventsRefused,
+    ManyEventsRefused,
+    ListedBeyondRefused,
+    ListedBeyondIsThirteen,
+    DecidedBeforeALaterFault,
+    FailsToldWithTwenty,
+    FailsToldWithThirteen,
+    PlaceToldWithTwenty,
+    PlaceToldWithThirteen,
+    PlaceOfTheCutTold,
+    DecidedWithoutItsEnd,
+    DecidedOutOfOrder,
+    DecidedTwice,
+    DecidedBehindTheEmptyCut,
+    DecidedWithFallingMembers,
+    DecidedWithNarrowMembers,
+    DecidedWithMembersBeyond,
+    DecidedWithKind24,
+    DecidedIfNoneIsInside,
+    DecidedIfNotEmpty,
 }
 
 use Wrong::*;
@@ -657,6 +701,13 @@ impl Library for WrongProgram {
 
     fn compare(&self, yesterday: &[u8], today: &[u8]) -> Comparison {
         wrong_compare(self.0, yesterday, today)
+    }
+
+    fn decides(&self, listing: &[u8], events: u64, set: &Set) -> DecidedAnswer {
+        match is_of_decisions(self.0) {
+            true => wrong_decision(self.0, listing, events, set),
+            false => Mirror.decides(listing, events, set),
+        }
     }
 
     fn importance(&self, diagram: &Lent, chances: &[u32], areas: WeighAreas) -> ImportanceAnswer {

@@ -65,7 +65,7 @@ fn follows(wrong: Wrong, last: &Set, set: &Set) -> bool {
 }
 
 /// The cuts that the wrong program takes from the front of a listing, and whether that is all of it.
-fn cuts_in(wrong: Wrong, listing: &[u8]) -> (Vec<Cut>, bool) {
+pub fn cuts_in(wrong: Wrong, listing: &[u8]) -> (Vec<Cut>, bool) {
     let mut cuts: Vec<Cut> = Vec::new();
     let mut start = 0;
     while start < listing.len() {

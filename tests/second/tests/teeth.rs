@@ -2,6 +2,7 @@
 
 use second::compare::compare_input;
 use second::compare_added::compare_added;
+use second::compare_decisions::compare_decided;
 use second::compare_importance::compare_weights;
 use second::compare_large::compare_twins;
 use second::compare_plans::compare_maintenance;
@@ -14,6 +15,7 @@ use second::mirror::Mirror;
 use second::random::Random;
 use second::tally::Tally;
 use second::wrong::{Wrong, WrongProgram, ALL};
+use second::wrong_decisions::is_of_decisions;
 use second::wrong_importance::is_of_importance;
 use second::wrong_plans::is_of_plans;
 use second::wrong_report::is_of_reports;
@@ -55,6 +57,7 @@ fn the_mirror_passes() {
     assert_eq!(numbers("holding"), [0, 9, 12, 13, 19]);
     assert_eq!(numbers("check"), [0, 9, 12, 13]);
     assert_eq!(numbers("plan"), [0, 9, 12, 19]);
+    assert_eq!(numbers("decides"), [0, 13, 20]);
     for call in ["side", "first difference", "compare"] {
         assert_eq!(numbers(call), [0, 20]);
     }
@@ -227,6 +230,14 @@ fn importances_are_told_apart() {
     let own: Vec<Wrong> = ALL.iter().copied().filter(|&wrong| is_of_importance(wrong)).collect();
     assert_eq!(own.len(), 18);
     told_apart(compare_weights, &own);
+}
+
+/// Every wrong program about decisions by the list alone.
+#[test]
+fn decisions_are_told_apart() {
+    let own: Vec<Wrong> = ALL.iter().copied().filter(|&wrong| is_of_decisions(wrong)).collect();
+    assert_eq!(own.len(), 42);
+    told_apart(compare_decided, &own);
 }
 
 #[test]

@@ -1,0 +1,4 @@
+pub mod Looking
+pub mod Contains
+pub mod Once
+pub mod Computed
