@@ -7,24 +7,11 @@
    answer differently: an event of two zeros may have another plain difference, since the root does not depend on it. */
 
 #define _DEFAULT_SOURCE
+#include "counted.h"
 #include "matticklet.h"
 #include <stdio.h>
 #include <stdlib.h>
 #include <string.h>
-
-#if __has_include(<valgrind/callgrind.h>)
-#include <valgrind/callgrind.h>
-#else
-#define CALLGRIND_TOGGLE_COLLECT
-#define CALLGRIND_DUMP_STATS_AT(name)
-#endif
-#define COUNTED(name, what)            \
-    do {                               \
-        CALLGRIND_TOGGLE_COLLECT;      \
-        what;                          \
-        CALLGRIND_TOGGLE_COLLECT;      \
-        CALLGRIND_DUMP_STATS_AT(name); \
-    } while (0)
 
 typedef uint32_t u32;
 typedef unsigned long long number;

@@ -7,24 +7,11 @@
    fails if they answer differently. The plain program's report is compiled under a name of its own (see bench/report). */
 
 #define _DEFAULT_SOURCE
+#include "counted.h"
 #include "plain.h"
 #include <stdio.h>
 #include <stdlib.h>
 #include <string.h>
-
-#if __has_include(<valgrind/callgrind.h>)
-#include <valgrind/callgrind.h>
-#else
-#define CALLGRIND_TOGGLE_COLLECT
-#define CALLGRIND_DUMP_STATS_AT(name)
-#endif
-#define COUNTED(name, what)            \
-    do {                               \
-        CALLGRIND_TOGGLE_COLLECT;      \
-        what;                          \
-        CALLGRIND_TOGGLE_COLLECT;      \
-        CALLGRIND_DUMP_STATS_AT(name); \
-    } while (0)
 
 typedef unsigned long long number;
 typedef void report(u32, const u32 *, size_t, size_t, size_t, size_t, const u32 *, size_t, bool, const u64[MATTICKLET_SET_WORDS], uint8_t *,

@@ -5,24 +5,11 @@
    Under callgrind (--collect-atstart=no) it dumps the instructions of both: library, plain. It fails if they answer differently. */
 
 #define _DEFAULT_SOURCE
+#include "counted.h"
 #include "plain.h"
 #include <stdio.h>
 #include <stdlib.h>
 #include <string.h>
-
-#if __has_include(<valgrind/callgrind.h>)
-#include <valgrind/callgrind.h>
-#else
-#define CALLGRIND_TOGGLE_COLLECT
-#define CALLGRIND_DUMP_STATS_AT(name)
-#endif
-#define COUNTED(name, what)            \
-    do {                               \
-        CALLGRIND_TOGGLE_COLLECT;      \
-        what;                          \
-        CALLGRIND_TOGGLE_COLLECT;      \
-        CALLGRIND_DUMP_STATS_AT(name); \
-    } while (0)
 
 typedef unsigned long long number;
 enum { SIZES = MATTICKLET_EVENTS + 1, MEMO = 4 * 65536 };
