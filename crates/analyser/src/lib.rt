@@ -1,4 +1,6 @@
 // The product: trees read and written, analysed in lent tables, cuts listed, chances bracketed. Each public call answers for any arguments.
+#![tactic(auto)]
+
 ghost use Rattle.std.specs.Prelude.{◌≡◌};
 ghost use Rattle.paper.specs.Limits.{limits};
 ghost use Rattle.rules.specs.Answers.{verdict};

@@ -1,4 +1,6 @@
 // The analysis of a tree in memory that can be built: 9 for wrong lengths, then its two tables: 10, 11, or done.
+#![tactic(auto)]
+
 mod lengths; // number 9
 
 ghost use Rattle.memory.specs.Memory.{memory, Lengths};

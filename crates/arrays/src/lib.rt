@@ -1,4 +1,6 @@
 // The events of a tree in memory as an array of their chances and one of their sites, and back.
+#![tactic(auto)]
+
 ghost use Rattle.std.specs.Prelude.{◌≡◌, ◌≤◌, ◌<◌};
 ghost use Rattle.paper.specs.Limits.{limits};
 ghost use Rattle.arrays.specs.Chances.{chances_of, sites_of, events_of, Blank};

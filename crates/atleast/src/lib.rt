@@ -1,5 +1,7 @@
 // At least k of n nodes by its rule, from the last input to the first: the row holds the node of at-least j of the inputs taken so far, for each j that the
 // rule reaches.
+#![tactic(auto)]
+
 ghost use Rattle.std.specs.Prelude.{true, false, map, [], ◌∷◌, ◌+◌, ◌<◌, ◌≤◌, length};
 ghost use Rattle.paper.specs.Limits.{limits};
 ghost use Rattle.algebra.specs.Operations.{join_d};

@@ -1,4 +1,6 @@
 // The bracket: two numbers of billionths that enclose the chance of a lent diagram's root.
+#![tactic(auto)]
+
 ghost use Rattle.std.specs.Prelude.{◌≡◌, ◌+◌, ◌-◌, ◌*◌, ◌/◌, ◌≤◌, ◌<◌, length, set};
 ghost use Rattle.paper.specs.Limits.{billion};
 ghost use Rattle.tables.specs.Flags.{Says};

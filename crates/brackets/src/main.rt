@@ -1,5 +1,6 @@
 // Runs the bracket on tables written by hand, with work areas that come dirty, and writes for each the answer's number, its two ends, and whether
 // the work areas were left zero or as they came.
+#![tactic(auto)]
 
 // Whether each number of a work area is `v`.
 fn each_is(work: &[u32], v: u32) -> bool {

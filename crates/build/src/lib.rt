@@ -1,4 +1,6 @@
 // The diagrams of a tree's gates in one table, gate by gate.
+#![tactic(auto)]
+
 ghost use Rattle.std.specs.Prelude.{◌≡◌, map, ◌+◌, ◌/◌, ◌<◌, ◌≤◌, length, take};
 ghost use Rattle.tables.specs.Table.{den};
 ghost use Rattle.store.specs.Memo.{Places};

@@ -1,4 +1,6 @@
 // What changed from yesterday's listing to today's: the first cut that stands in one only, its side, and the numbers gone, new and kept.
+#![tactic(auto)]
+
 ghost use Rattle.std.specs.Prelude.{◌≡◌};
 ghost use Rattle.changes.specs.Answers.{Sides, Part, Compares, refusedOf};
 

@@ -1,5 +1,7 @@
 // Analyses trees and says what each needs, how many cuts it has and its top's bracket; then what tables with just enough room are answered, and
 // tables with room for a node or a cut node less. All memory comes dirty.
+#![tactic(auto)]
+
 ghost use Rattle.std.specs.Prelude.{◌≡◌, ◌%◌, ◌^◌, ◌≤◌, true, length};
 ghost use Rattle.paper.specs.Cuts.{sets_of};
 ghost use Rattle.tables.specs.Table.{den};

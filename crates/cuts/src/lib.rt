@@ -1,5 +1,7 @@
 // The minimal cuts of every function in the root's diagram, as nodes of a table of their own. A number of that table is a cut number; its node has
 // the sets with the event in its failed branch, the sets without it in its sound branch, and no failed branch 0.
+#![tactic(auto)]
+
 ghost use Rattle.std.specs.Prelude.{◌<◌, ◌≤◌, length};
 ghost use Rattle.algebra.specs.Families.{cuts_d};
 ghost use Rattle.tables.specs.Table.{den};

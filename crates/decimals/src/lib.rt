@@ -1,4 +1,6 @@
 // Text put into an array that the caller lends, and numbers in decimal.
+#![tactic(auto)]
+
 ghost use Rattle.std.specs.Prelude.{◌≡◌, ◌+◌, ◌≤◌, length};
 ghost use Rattle.paper.specs.Exporting.{decimal};
 ghost use Rattle.decimals.specs.Places.{Put, Ends};

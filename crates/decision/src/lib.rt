@@ -1,4 +1,6 @@
 // Whether a set of failures fails the root, from the bytes of its listing alone: no tree and no table is needed.
+#![tactic(auto)]
+
 ghost use Rattle.std.specs.Prelude.{◌≡◌, ◌<◌, drop};
 ghost use Rattle.paper.specs.Limits.{limits};
 ghost use Rattle.sets.specs.Words.{set_of};

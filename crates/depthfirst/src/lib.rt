@@ -1,5 +1,7 @@
 // The depth-first walk over equations, left to right, with a lent stack in place of recursion: the order in which names are left, or a ring;
 // the numbers of events and gates; and the one root.
+#![tactic(auto)]
+
 ghost use Rattle.std.specs.Prelude.{◌≡◌, ◌<◌, ◌≤◌, length, take, get_or};
 ghost use Rattle.paper.specs.Walks.{visit};
 ghost use Rattle.depthfirst.specs.Inputs.{inputs_of, Arrays};

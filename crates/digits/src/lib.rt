@@ -1,4 +1,6 @@
 // Whole numbers of any length, exactly: digits of base D, which is a billion, the lowest first.
+#![tactic(auto)]
+
 ghost use Rattle.std.specs.Prelude.{◌≡◌, true, false, ◌+◌, ◌*◌, ◌^◌, ◌≤◌, ◌<◌, length};
 ghost use Rattle.paper.specs.Limits.{billion};
 ghost use Rattle.digits.specs.Digits.{number, Number, places};

@@ -1,4 +1,6 @@
 // Typed equations: a text read into a tree, and a tree typed as a text. Each public call answers for any arguments.
+#![tactic(auto)]
+
 mod answering; // the text judged rule by rule, and its tree
 mod lent; // the lists that are lent: long enough, and zero again
 mod showing; // the lines of a ring, and the places of names

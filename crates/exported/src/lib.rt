@@ -1,4 +1,6 @@
 // The product's calls for other languages: numbers, slices (a pointer, then a length) and arrays (a pointer), the answer in a lent array.
+#![tactic(auto)]
+
 mod analysing; // a tree analysed, also under the settings of an edition
 mod ending; // an answer whose numbers end in the words of a set
 mod listings; // two listings compared

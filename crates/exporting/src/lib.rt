@@ -1,4 +1,6 @@
 // Exporting: a tree in memory judged as its bytes would be, and typed as equations into a lent room.
+#![tactic(auto)]
+
 mod lines; // the lines of gates and of chances, and all of them
 mod pieces; // words, names and rows of names
 

@@ -1,4 +1,6 @@
 // A folder of trees: how many minimal cuts of each size they have together. The call answers for any arguments.
+#![tactic(auto)]
+
 ghost use Rattle.std.specs.Prelude.{◌≡◌, [], length};
 ghost use Rattle.paper.specs.Lists.{sum};
 ghost use Rattle.paper.specs.Sizes.{sizes};

@@ -1,4 +1,6 @@
 // The product's calls one after another, for a program: the tables of a done analysis are listed room by room and bracketed, and never refused.
+#![tactic(auto)]
+
 ghost use Rattle.std.specs.Prelude.{true, ◌≤◌, ◌/◌, length};
 ghost use Rattle.tables.specs.Table.{den};
 ghost use Rattle.tables.specs.Lent.{Lent};

@@ -1,4 +1,6 @@
 // A tree with its forced events as constants: the inputs of a tree in memory, changed before it is built.
+#![tactic(auto)]
+
 ghost use Rattle.std.specs.Prelude.{◌≡◌, map, length};
 ghost use Rattle.paper.specs.Limits.{limits};
 ghost use Rattle.settings.specs.States.{states_in};

@@ -1,4 +1,6 @@
 // The node of one gate: the nodes of the inputs that count, an event made where it is first used; then these combined by the gate's kind.
+#![tactic(auto)]
+
 mod inputs; // the nodes of a gate's inputs
 mod kinds; // these combined by the gate's kind
 

@@ -1,4 +1,6 @@
 // And, or of two nodes of a store. The leaf that decides is a parameter, so both are one operation: and with z 0, or with z 1.
+#![tactic(auto)]
+
 ghost use Rattle.std.specs.Prelude.{◌≤◌};
 ghost use Rattle.algebra.specs.Operations.{join_d};
 ghost use Rattle.tables.specs.Table.{den};

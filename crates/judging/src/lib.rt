@@ -1,4 +1,6 @@
 // A tree in memory: its records one after the other, and what its bytes would be answered.
+#![tactic(auto)]
+
 ghost use Rattle.std.specs.Prelude.{◌≡◌, ◌<◌};
 ghost use Rattle.rules.specs.Format.{event_in};
 ghost use Rattle.judging.specs.Bytes.{input_record, gate_record, next_of};

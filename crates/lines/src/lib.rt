@@ -1,11 +1,13 @@
 // One line of a text judged by the grammar, over a slice and with no copies. Places are offsets in the text.
+#![tactic(auto)]
+
 ghost use Rattle.std.specs.Prelude.{◌≡◌, true, ◌+◌, ◌<◌, ◌≤◌, length, drop};
 ghost use Rattle.paper.specs.Bytes.{letter as isLetter, digit as isDigit, letter_or_digit, in_line, lead, starts as starts_with, same};
 ghost use Rattle.paper.specs.Grammar.{reserved as isReserved, is_name, is_number, value as value_of, is_row, counted_of, right_of, chance_of, line_of};
 ghost use Rattle.lines.specs.Reading.{name_at, Ends, Divides, Capped, Reads, ReadsAt, Steps};
 
 // What a line says: nothing in the grammar; a chance; or an equation, with the place of its first right name. A number is capped at 2^32 - 1.
-#[derive(Drop)]
+#[derive(Clone, Copy)]
 pub enum Kind {
     Bad,
     Chance(u32),

@@ -1,4 +1,6 @@
 // Lists the cuts of a cut diagram in order, as many as fit into a room: each from its set, the next from the path of the last.
+#![tactic(auto)]
+
 ghost use Rattle.std.specs.Prelude.{◌≡◌, true, ◌-◌, ◌*◌, ◌≤◌, ◌<◌, length};
 ghost use Rattle.paper.specs.Sets.{members};
 ghost use Rattle.paper.specs.Listing.{set_bytes};

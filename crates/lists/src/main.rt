@@ -1,6 +1,8 @@
 // Runs listing calls. The input is decimal numbers: how many calls there are, and for each of them the events, the stated nodes, the root,
 // 1 from the beginning or 0 after a set, the set's size and its events, the bytes of room, the length of the table and its numbers.
 // A line of the output has the number, the cuts, the bytes used, 1 where finished; the last set; the bytes; and how many behind them stayed.
+#![tactic(auto)]
+
 ghost use Rattle.std.specs.Prelude.{◌≤◌, ◌≡◌, length};
 ghost use Rattle.sets.specs.Words.{words};
 

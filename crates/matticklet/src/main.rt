@@ -1,4 +1,6 @@
 // The program: reads a tree from standard input, and writes its counts, its cuts and its top's bracket, or one line of refusal.
+#![tactic(auto)]
+
 ghost use Rattle.text.specs.Lines.{refusal as refusalText, head as headText, top as top_text};
 ghost use Rattle.text.specs.Places.{Front};
 ghost use Rattle.followup.specs.Tops.{Priced, low_of, high_of, Held};

@@ -1,11 +1,13 @@
 // What an analysis is lent, and what it answers.
+#![tactic(auto)]
+
 ghost use Rattle.memory.specs.Memory.{memory, AllZero, Settled};
 ghost use Rattle.memory.specs.Outcome.{Refused, at};
 
 use tables::clear;
 
 // What an analysis answers: its number and place, the counts of both tables and both roots.
-#[derive(Drop)]
+#[derive(Clone, Copy)]
 pub struct Analysis {
     pub number: u8,
     pub place: usize,

@@ -1,4 +1,6 @@
 // Moves: the bytes of a tree without sites made those of a tree with, each site 0, and back.
+#![tactic(auto)]
+
 ghost use Rattle.std.specs.Prelude.{◌≡◌};
 ghost use Rattle.paper.specs.Limits.{limits};
 ghost use Rattle.writing.specs.Writes.{wrote};

@@ -1,4 +1,6 @@
 // Names as numbers: a name's number is its place among the names met so far, and a name is where it stands in the text.
+#![tactic(auto)]
+
 ghost use Rattle.std.specs.Prelude.{◌≡◌, ◌<◌, ◌≤◌, length};
 ghost use Rattle.paper.specs.Bytes.{letter_or_digit, same};
 ghost use Rattle.lines.specs.Reading.{name_at, Ends};

@@ -1,4 +1,6 @@
 // Two nodes of a store: taken apart at the earlier of their events; what needs no recursion; the node over two branches, kept as the answer.
+#![tactic(auto)]
+
 ghost use Rattle.std.specs.Prelude.{◌≡◌, ◌+◌, ◌/◌, ◌<◌, ◌≤◌, min, max, length};
 ghost use Rattle.paper.specs.Diagrams.{mk_d};
 ghost use Rattle.tables.specs.Table.{den};

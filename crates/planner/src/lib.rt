@@ -1,5 +1,7 @@
 // The maintenance day planner, over the analyser's promises about cuts alone: a set of events to be kept sound is checked, and one is proposed.
 // What is proposed has no standing until it is checked.
+#![tactic(auto)]
+
 mod proposing; // the event in the most cuts left, again and again
 
 ghost use Rattle.std.specs.Prelude.{◌≡◌, true, false, replicate};
@@ -15,7 +17,7 @@ use proposing::take_all;
 
 // What the checker says of a set. Three refusals: no cut diagram, an area that is too short, a set beyond the events. Then: the set is accepted; a cut misses
 // it; or this member could be dropped, and no lower one.
-#[derive(Drop)]
+#[derive(Clone, Copy)]
 pub enum Judgement {
     NoDiagram,
     TooShort,

@@ -1,4 +1,6 @@
 // Names in the order of a walk become a tree in memory, judged by the limits of a tree in the order of its records: events, then gates.
+#![tactic(auto)]
+
 ghost use Rattle.std.specs.Prelude.{◌≡◌, [], ◌∷◌, ◌<◌, ◌≤◌, length, take, get_or};
 ghost use Rattle.paper.specs.Limits.{limits};
 ghost use Rattle.paper.specs.Walks.{is_event, events_of};

@@ -1,5 +1,7 @@
 // Reads trees that are given in hexadecimal, one to a line, and says what each is answered; then changes a tree in memory
 // in ways that no bytes could, and says what writing it is answered. A line that starts with # is copied.
+#![tactic(auto)]
+
 mod hexadecimal; // the bytes that a line of text stands for
 mod changes; // a tree changed in memory, and written
 

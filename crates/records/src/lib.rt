@@ -1,4 +1,6 @@
 // Tree records: any bytes judged by the paper's rules and read into a tree in memory.
+#![tactic(auto)]
+
 pub mod thresholds; // a gate's k against its distinct inputs: number 5
 pub mod uses; // the search for an item that is an input nowhere: number 8
 
@@ -16,7 +18,7 @@ use thresholds::starved;
 use uses::{Found, unused_in};
 
 // An event of a tree: its chance in billionths, and its site, 0 where its record has none.
-#[derive(Drop)]
+#[derive(Clone, Copy)]
 pub struct Event {
     pub chance: u32,
     pub site: u16,
@@ -24,7 +26,7 @@ pub struct Event {
 
 // A tree: its events; for each gate its kind (2 and, 3 or, 4 at least), its k and its n; the inputs of all gates, one gate after the other; and whether the events'
 // records have sites. A tree that was read has zeros behind its counts. The bool is last, so that no gap parts the arrays and a tree is cleared at once.
-#[derive(Drop)]
+#[derive(Clone, Copy)]
 pub struct Tree {
     pub events: [Event; EVENTS],
     pub event_count: usize,

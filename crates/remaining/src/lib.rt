@@ -1,5 +1,7 @@
 // What a planner asks of a lent cut diagram, answered in sets and families alone: the first cut that misses a set, and for each event how many of the
 // cuts that miss the set hold it. Neither lists the cuts: each goes over the nodes once up and once down.
+#![tactic(auto)]
+
 mod nodes; // one node, and one event of a set
 mod marks; // the first cut
 mod many; // numbers that may be too large

@@ -7,7 +7,7 @@ ghost use Rattle.remaining.specs.Counting.{capped, value, many_at, Stored};
 const MOST: u64 = 18446744073709551615;
 
 // A number: `high` is 0, or 1 for a number above the largest, and `low` is 0 then.
-#[derive(Drop)]
+#[derive(Clone, Copy)]
 pub struct Many {
     pub low: u64,
     pub high: u64,

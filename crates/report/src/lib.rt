@@ -1,4 +1,6 @@
 // Reports the cuts of a cut diagram that the review rule tells, in the order of the listing, as many as fit into a room.
+#![tactic(auto)]
+
 ghost use Rattle.std.specs.Prelude.{◌≡◌, true, false, ◌-◌, ◌/◌, ◌<◌, length, replicate};
 ghost use Rattle.paper.specs.Limits.{limits};
 ghost use Rattle.paper.specs.Lists.{keep};

@@ -1,5 +1,7 @@
 // The walk over the reportable cuts of a cut diagram: from one to the next, past every part of the diagram that has none.
 // Whether a part has one is told exactly, by whole numbers: each node is weighed once.
+#![tactic(auto)]
+
 pub mod weighing; // the fewest members and the likeliest set of each node
 
 ghost use Rattle.std.specs.Prelude.{◌≡◌, [], true, false, ◌+◌, ◌*◌, ◌^◌, ◌≤◌, ◌<◌, length, take};

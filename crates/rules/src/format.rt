@@ -3,7 +3,7 @@ ghost use Rattle.std.specs.Prelude.{◌≡◌, ◌+◌, ◌*◌};
 ghost use Rattle.paper.specs.Limits.{limits};
 ghost use Rattle.rules.specs.Format.{length_of, event_length, record_of, width_of};
 
-#[derive(Drop)]
+#[derive(Clone, Copy)]
 pub enum Record {
     // No byte is left.
     Missing,

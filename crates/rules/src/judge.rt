@@ -11,7 +11,7 @@ use paper::{BILLION, EVENTS, GATES, GATES_FROM, IN_ALL, INPUTS, WIDE_FROM};
 
 // Where the reading stands: the place of the next record, the number of events so far and whether they have sites, the
 // numbers of gates and of inputs so far, and how many inputs the last gate still wants.
-#[derive(Drop)]
+#[derive(Clone, Copy)]
 pub struct State {
     pub at: usize,
     pub events: usize,

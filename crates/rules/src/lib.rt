@@ -1,4 +1,6 @@
 // The rules of single records: what a record is, and what it does at a place of the reading.
+#![tactic(auto)]
+
 pub mod format; // the records: what stands at the front of some bytes
 pub mod judge; // what a record does at a place of the reading: numbers 1 to 7 but 5, and 21
 
@@ -6,7 +8,7 @@ ghost use Rattle.std.specs.Prelude.{◌≡◌};
 ghost use Rattle.rules.specs.Answers.{verdict};
 
 // What a call answers. `specs/Answers.antt` gives each case the paper's number and place.
-#[derive(Drop)]
+#[derive(Clone, Copy)]
 pub enum Answer {
     Done,
     Cut(usize),

@@ -1,4 +1,6 @@
 // A text of equations, pass by pass: its names as numbers, the line that defines each, its chance, and its inputs; or number 15 or 16.
+#![tactic(auto)]
+
 pub mod numbering; // the names of all equations, interned
 pub mod definitions; // the line that defines each name
 pub mod judging; // chances, and the first wrong line

@@ -1,4 +1,6 @@
 // The analysis of a tree under the settings of an edition: 1 to 8 or 21, then 24 and 13, then 9, then 10, then 11, or done.
+#![tactic(auto)]
+
 ghost use Rattle.memory.specs.Memory.{memory};
 ghost use Rattle.analysis.specs.Filling.{WasRead};
 ghost use Rattle.seasons.specs.Seasons.{AnalysedUnder};

@@ -1,4 +1,6 @@
 // A set of events in words of 64 bits: bit i % 64 of word i / 64 is set exactly if event i is a member.
+#![tactic(auto)]
+
 ghost use Rattle.std.specs.Prelude.{◌≡◌, true, false, ◌++◌, ◌+◌, ◌*◌, ◌≤◌, ◌<◌, length, replicate, take, drop};
 ghost use Rattle.paper.specs.Sets.{put, members};
 ghost use Rattle.paper.specs.Listing.{member_bytes, set_bytes};

@@ -1,4 +1,6 @@
 // Settings by edition: a store judged, the state of each event under an edition, and each event's chance there.
+#![tactic(auto)]
+
 ghost use Rattle.std.specs.Prelude.{◌≡◌, ◌+◌, ◌*◌, ◌≤◌, ◌<◌, length};
 ghost use Rattle.paper.specs.Limits.{limits, billion};
 ghost use Rattle.paper.specs.Store.{entry_long, entry_at, fault_of, accepted, judge_store, settings_of, state_of};

@@ -1,4 +1,6 @@
 // Two cut listings walked side by side, in one pass: each judged cut by cut, where they first differ, and how many cuts each has alone.
+#![tactic(auto)]
+
 pub mod cut; // one cut, and two beside each other
 
 ghost use Rattle.std.specs.Prelude.{◌≡◌, ◌+◌, ◌<◌};
@@ -10,7 +12,7 @@ ghost use Rattle.sidebyside.specs.Finding.{Finds, Parted};
 use cut::{Earlier, first_end, next, order};
 
 // Which listing a comparison speaks of: of a first difference, or of a fault, which is number 20.
-#[derive(Drop)]
+#[derive(Clone, Copy)]
 pub enum Which {
     Equal,
     Yesterday,

@@ -1,5 +1,7 @@
 // How many of the sets that a lent cut diagram denotes have 0, 1, 2 … members, without listing them: the nodes that the root reaches are listed once,
 // then one pass over that list for each size up to the largest.
+#![tactic(auto)]
+
 ghost use Rattle.std.specs.Prelude.{◌≡◌, ◌+◌, ◌-◌, ◌*◌, ◌/◌, ◌≤◌, ◌<◌, max, length, replicate};
 ghost use Rattle.paper.specs.Sizes.{sizes};
 ghost use Rattle.tables.specs.Flags.{Says};

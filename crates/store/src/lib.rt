@@ -1,5 +1,7 @@
 // A table of nodes that grows and holds no triple twice, and the memo beside it. Slot k of `nodes`, three numbers from 3 * k on, is node number k + 2;
 // `heads` and `next` are chains of falling node numbers, one for each first slot.
+#![tactic(auto)]
+
 ghost use Rattle.std.specs.Prelude.{◌≡◌, true, false, ◌+◌, ◌*◌, ◌<◌, ◌≤◌, length};
 ghost use Rattle.paper.specs.Limits.{most_numbers};
 ghost use Rattle.paper.specs.Diagrams.{node, mk_d};

@@ -1,5 +1,7 @@
 // Tables of nodes: reading them, clearing them, and the check of a lent one (number 12). A node is three numbers, event, branch with the event failed, branch
 // with it sound; slot k, three numbers from 3 * k on, is node number k + 2.
+#![tactic(auto)]
+
 ghost use Rattle.std.specs.Prelude.{◌≡◌, ℕ, ◌+◌, ◌-◌, ◌*◌, ◌≤◌, ◌<◌, length, replicate};
 ghost use Rattle.paper.specs.Limits.{most_numbers};
 ghost use Rattle.tables.specs.Table.{event_at, failed_at, sound_at, event_of, failed_of, sound_of};

@@ -13,7 +13,7 @@ const END: u8 = 0x22;
 const WIDE: u8 = 0x23;
 
 // Where a byte stands: at the start of a cut, behind kind 21, behind kind 23, behind this low byte of a number, or behind a member.
-#[derive(Drop)]
+#[derive(Clone, Copy)]
 pub enum Place {
     Start,
     Event,

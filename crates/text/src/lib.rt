@@ -1,4 +1,6 @@
 // The program's lines: words and numbers, put into an array that the caller lends.
+#![tactic(auto)]
+
 pub mod cuts; // cuts.rt: the lines of the cuts
 
 ghost use Rattle.std.specs.Prelude.{◌+◌, ◌≤◌, length};

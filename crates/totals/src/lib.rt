@@ -1,4 +1,6 @@
 // What a folder's totals are made of: what is judged before any tree, one tree's counts added, and what is written and cleared at the end.
+#![tactic(auto)]
+
 ghost use Rattle.std.specs.Prelude.{◌≡◌, true, ◌≤◌, length, replicate};
 ghost use Rattle.paper.specs.Limits.{limits};
 ghost use Rattle.paper.specs.Answers.{Unwritten};

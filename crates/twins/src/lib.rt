@@ -1,4 +1,6 @@
 // The distinct inputs of a gate: each once, at its first place.
+#![tactic(auto)]
+
 ghost use Rattle.std.specs.Prelude.{◌≡◌, ◌≤◌, length, take, eqb};
 ghost use Rattle.paper.specs.Limits.{limits};
 ghost use Rattle.twins.specs.Distinct.{stands_in, Distinct};

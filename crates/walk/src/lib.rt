@@ -1,5 +1,7 @@
 // The walk over a cut diagram: a path of nodes in an array leads from one cut to the next, and what is left at its end stays the same.
 // The set of the path's events goes with it.
+#![tactic(auto)]
+
 ghost use Rattle.std.specs.Prelude.{◌≡◌, [], true, suc, ◌<◌, length, take};
 ghost use Rattle.paper.specs.Sets.{Within};
 ghost use Rattle.paper.specs.Cuts.{sets_of};
@@ -11,7 +13,7 @@ ghost use Rattle.walk.specs.Follows.{Parts, Shorter, Longer, Follows, Starts};
 ghost use Rattle.walk.specs.After.{to_list};
 
 // A node, how many entries of the path lead to it, and the lowest event in which the cuts from there differ from the set before them.
-#[derive(Drop)]
+#[derive(Clone, Copy)]
 pub struct Spot {
     pub node: usize,
     pub depth: usize,
@@ -27,7 +29,7 @@ pub struct Move {
 }
 
 // The same of a cut behind another, the lowest event in which the two differ, and how many members are below it: none of the first cut, all of which is new.
-#[derive(Drop)]
+#[derive(Clone, Copy)]
 pub struct Step {
     pub found: bool,
     pub depth: usize,

@@ -1,4 +1,6 @@
 // F without G: the sets of a cut diagram that do not make a function fail. F stands in the cut table, G in the node table.
+#![tactic(auto)]
+
 ghost use Rattle.std.specs.Prelude.{◌≡◌, ◌+◌, ◌/◌, ◌<◌, ◌≤◌, length};
 ghost use Rattle.algebra.specs.Families.{mk_z, without_d};
 ghost use Rattle.tables.specs.Table.{den};

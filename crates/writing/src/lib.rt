@@ -1,4 +1,6 @@
 // Writing: a tree in memory judged as its bytes would be, and its records put into a lent room.
+#![tactic(auto)]
+
 mod emission; // a tree's records, written
 pub mod sites; // a site that a record has no bytes for: number 22
 

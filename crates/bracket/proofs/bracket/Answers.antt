@@ -1,0 +1,45 @@
+-- `bracket::bracket` meets its contract. Assumes nothing.
+use mathlib.Core.Bool.{false}
+use native.Mathlib.Omega.{arith}
+use borrow.Author.Tests.{not-true, not-false}
+use Rattle.tables.specs.Lent.{Lent}
+use Rattle.tables.proofs.Flags.{says_true, says_false}
+use Rattle.bracket.specs.Bracketed.{Chances, Enough, no_diagram, too_short, no_chance, done}
+use Rattle.bracket.proofs.Answer.{refused_now, can_fill}
+use borrow.Author.Rules.{rules}
+use Rattle.bracket.proofs.bracket.Goals as goal
+
+-- what the tests showed on the way
+valid : (c : goal.Else1) → Lent false c.before.before.before.before.before.before.args.n c.before.before.before.before.before.before.args.nodes.now c.before.before.before.before.before.before.args.count c.before.before.before.before.before.before.args.root
+valid c = let t = c.before.is-diagram in says_true t.result (not-false t.result c.if1.false) t.ensures
+
+enough : (c : goal.Else4) → Enough c.before.before.before.before.before.before.before.before.before.args.n c.before.before.before.before.before.before.before.before.before.args.nodes.now c.before.before.before.before.before.before.before.before.before.args.chances.now c.before.before.before.before.before.before.before.before.before.args.lows.now c.before.before.before.before.before.before.before.before.before.args.highs.now
+enough c = record { chances = omega arith; lows = omega arith; highs = omega arith }
+
+priced : (c : goal.Else5) → Chances c.before.before.before.before.before.before.before.before.before.before.before.args.n c.before.before.before.before.before.before.before.before.before.before.before.args.chances.now
+priced c = let t = c.before.chances_ok in says_true t.result (not-false t.result c.if5.false) t.ensures
+
+pub returns-then-not-is_diagram : goal.returns-then-not-is_diagram
+returns-then-not-is_diagram c =
+    let t = c.is_diagram in
+    no_diagram (says_false t.result (not-true t.result c.if-not-is_diagram.true-raw) t.ensures) (refused_now c.refused.ensures)
+
+pub returns-then-chances-n : goal.returns-then-chances-n
+returns-then-chances-n c = too_short (valid c.before.before) (λ e. let h = e.chances in omega arith) (refused_now c.refused-then-chances-n.ensures)
+
+pub returns-then-lows-capacity : goal.returns-then-lows-capacity
+returns-then-lows-capacity c = too_short (valid c.before.before.before) (λ e. let h = e.lows in omega arith) (refused_now c.refused-then-lows-capacity.ensures)
+
+pub returns-then-highs-capacity : goal.returns-then-highs-capacity
+returns-then-highs-capacity c = too_short (valid c.before.before.before.before) (λ e. let h = e.highs in omega arith) (refused_now c.refused-then-highs-capacity.ensures)
+
+pub returns-then-not-chances_ok : goal.returns-then-not-chances_ok
+returns-then-not-chances_ok c =
+    let t = c.chances_ok in
+    no_chance (valid c.before.before.before.before.before.before) (enough c.before.before.before) (says_false t.result (not-true t.result c.if-not-chances_ok.true-raw) t.ensures) (refused_now c.refused-then-not-chances_ok.ensures)
+
+pub both_ends-requires : goal.both_ends-requires
+both_ends-requires c = can_fill (valid c.before.before.before.before.before.before.before) (enough c.before.before.before.before) (priced c.before.before)
+
+pub returns : goal.returns
+returns c = done (valid c.before.before.before.before.before.before.before.before.before.before.before.before) (enough c.before.before.before.before.before.before.before.before.before) (priced c.before.before.before.before.before.before.before) c.both_ends.ensures

@@ -1,0 +1,110 @@
+-- `bracket::fill_all` meets its contract. Assumes nothing.
+use mathlib.Core.Path.{◌≡◌, refl, ◌∙◌}
+use mathlib.Core.List.{List}
+use Prim.Native.Nat.{ℕ, ◌+◌, ◌-◌, ◌*◌, ◌/◌, ◌≤◌, ◌<◌}
+use native.Mathlib.Omega.{arith}
+use lib.ListN.{length, set}
+use Rattle.paper.specs.Limits.{billion}
+use Rattle.tables.proofs.Lent.{lent_node}
+use Rattle.bracket.specs.Pass.{number_in, Filled, Ready}
+use Rattle.bracket.proofs.Pass.{ready, filled_start, filled_next}
+use Rattle.bracket.proofs.fill_all.Goals as goal
+
+-- one turn: what was read of the node and its chance
+module _ (c : goal.After-wide invariant-loop decreases-loop) where
+  abbrev at : goal.Start invariant-loop decreases-loop
+  at = c.before.before.before.before.before.before.before.before.before.before.before
+
+  abbrev w : goal.At-loop invariant-loop decreases-loop
+  w = c.before.before.before.before.before.before
+
+  module _ (r : ℕ) (small : r < billion) (W : List ℕ) (long : at.args.count ≤ length W) (fill : Filled r at.args.chances.now at.args.nodes.now W w.loop.i) where
+    can : Ready W w.loop.i c.before.before.before.failed-of.result c.before.before.sound-of.result c.wide.result r
+    can =
+        ready at.pre.0 r small c.before.before.before.before.event-of.ensures c.before.before.before.failed-of.ensures c.before.before.sound-of.ensures c.wide.ensures
+        w.loop.inv.0 c.before.before.before.before.before.loop-test.true long fill
+
+    more : (Q : List ℕ) → Q ≡ set W (w.loop.i - 2) ((c.wide.result * number_in W c.before.before.before.failed-of.result + (billion - c.wide.result) * number_in W c.before.before.sound-of.result + r) / billion)
+        → Filled r at.args.chances.now at.args.nodes.now Q (w.loop.i + 1)
+    more Q =
+        filled_next at.pre.0 r small c.before.before.before.before.event-of.ensures c.before.before.before.failed-of.ensures c.before.before.sound-of.ensures c.wide.ensures
+        w.loop.inv.0 c.before.before.before.before.before.loop-test.true long fill
+
+low : (c : goal.After-event-of invariant-loop decreases-loop) → c.event-of.result < c.before.before.before.before.before.before.before.args.n
+low c =
+    let s = c.before.before.before.before.before.before.before in
+    let h = (lent_node s.requires.0.lent {i = c.before.before.loop.i} (omega arith) (omega arith)).event in
+    omega (arith, c.event-of.ensures)
+
+pub loop-i-init : goal.loop-i-init
+loop-i-init c = (
+  omega arith,
+  omega arith,
+  refl,
+  refl,
+  filled_start 0 c.args.chances.now c.args.nodes.now c.args.lows.now,
+  filled_start (billion - 1) c.args.chances.now c.args.nodes.now c.args.highs.now,
+)
+
+pub overflow_add-count : goal.overflow_add-count
+overflow_add-count c = let v = c.requires.0.lent in omega (arith, v.fits, v.short)
+
+pub event_of-e-requires : goal.event_of-e-requires
+event_of-e-requires c = omega (arith, c.requires.0.lent.fits)
+
+pub failed_of-f-requires : goal.failed_of-f-requires
+failed_of-f-requires c = omega (arith, c.requires.0.lent.fits, c.loop-i-test.true)
+
+pub sound_of-s-requires : goal.sound_of-s-requires
+sound_of-s-requires c = omega (arith, c.requires.0.lent.fits, c.loop-i-test.true)
+
+pub offset_bounds-chances-e : goal.offset_bounds-chances-e
+offset_bounds-chances-e c = let h = low c.before.before in omega (arith, c.requires.0.enough, c.well_formed)
+
+pub bounds-chances-e : goal.bounds-chances-e
+bounds-chances-e c = let h = low c.before.before.before in omega (arith, c.requires.0.enough)
+
+pub wide-a-requires : goal.wide-a-requires
+wide-a-requires c = tt
+
+pub fill_node-requires : goal.fill_node-requires
+fill_node-requires c = let w = c.loop-i in can c.before 0 (omega arith) w.lows (omega (arith, w.invariant.2, (at c.before).requires.1)) w.invariant.4
+
+pub fill_node-requires-in-loop-i : goal.fill_node-requires-in-loop-i
+fill_node-requires-in-loop-i c =
+    let w = c.loop-i in
+    can c.before.before.before.before.before (billion - 1) (omega arith) w.highs (omega (arith, w.invariant.3, (at c.before.before.before.before.before).requires.2)) w.invariant.5
+
+pub overflow_add-i : goal.overflow_add-i
+overflow_add-i c =
+    let v = c.requires.0.lent in
+    omega (arith, v.fits, v.short, c.loop-i-test.true)
+
+pub loop-i-smaller : goal.loop-i-smaller
+loop-i-smaller c = omega (arith, c.loop-i-test.true)
+
+pub loop-i-preserved : goal.loop-i-preserved
+loop-i-preserved c =
+    let w = c.loop-i in
+    let s = at c.before.before.before.before.before.before.before.before in
+    let l = c.fill_node in
+    let h = c.fill_node-in-loop-i in
+    let t = c.loop-i-test.true in (
+      omega arith,
+      omega arith,
+      l.auto.0 ∙ w.invariant.2,
+      h.auto.0 ∙ w.invariant.3,
+      more c.before.before.before.before.before.before.before.before 0 (omega arith) w.lows (omega (arith, w.invariant.2, s.pre.1)) w.invariant.4 l.new.0 l.ensures,
+      more c.before.before.before.before.before.before.before.before (billion - 1) (omega arith) w.highs (omega (arith, w.invariant.3, s.pre.2)) w.invariant.5 h.new.0 h.ensures,
+    )
+
+pub shape_of-lows : goal.shape_of-lows
+shape_of-lows c = c.loop-i.invariant.2
+
+pub shape_of-highs : goal.shape_of-highs
+shape_of-highs c = c.loop-i.invariant.3
+
+pub returns : goal.returns
+returns c =
+    let w = c.loop-i in
+    (record { at = λ j h. w.invariant.4.at j (omega arith) }, record { at = λ j h. w.invariant.5.at j (omega arith) })

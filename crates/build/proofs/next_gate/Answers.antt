@@ -1,0 +1,34 @@
+-- `build::next_gate`
+use borrow.Author.Rules.{rules}
+use mathlib.Core.List.{map}
+use native.Mathlib.Omega.{arith}
+use Rattle.tables.specs.Table.{den}
+use Rattle.build.proofs.Gates.{gate_fits, gate_own, gate_least, gate_is}
+use Rattle.build.proofs.next_gate.Goals as goal
+
+pub bounds-sizes-g : goal.bounds-sizes-g
+bounds-sizes-g c = omega (arith, c.requires.within.1.1.1.0)
+
+pub overflow_cast-end : goal.overflow_cast-end
+overflow_cast-end c = omega (arith, c.requires.within.1.0.few _ c.requires.within.1.1.1.0)
+
+pub overflow_add-end : goal.overflow_add-end
+overflow_add-end c = omega (arith, gate_fits c.requires.within.1.0 c.requires.within.1.1.1.0 c.requires.within.1.1.1.1, c.well_formed.1.1.1.1.1.1.1.1.0)
+
+pub offset_bounds-inputs-at : goal.offset_bounds-inputs-at
+offset_bounds-inputs-at c = omega (arith, gate_fits c.requires.within.1.0 c.requires.within.1.1.1.0 c.requires.within.1.1.1.1, c.well_formed.1.1.1.1.1.1.1.1.0)
+
+pub slice_bounds-gate_node-end : goal.slice_bounds-gate_node-end
+slice_bounds-gate_node-end c = omega (arith, gate_fits c.requires.within.1.0 c.requires.within.1.1.1.0 c.requires.within.1.1.1.1)
+
+pub gate_node-requires : goal.gate_node-requires
+gate_node-requires c =
+    record {
+      held = c.requires.held;
+      within = c.requires.within.0;
+      own = gate_own c.requires.within.1.0 c.requires.within.1.1.1.0 c.requires.within.1.1.1.1 _ c.requires.within.1.1.0;
+      k_le_inputs = gate_least c.requires.within.1.0 c.requires.within.1.1.1.0 c.requires.within.1.1.1.1;
+    }
+
+pub returns : goal.returns
+returns c = gate_is c.requires.within.1.0 c.requires.within.1.1.1.0 c.requires.within.1.1.1.1 (map (den c.args.nodes.now) c.args.gates.now) c.args.nodes.now c.args.count c.gate_node.new.0 c.gate_node.new.1.0 c.gate_node.new.1.1.0 c.gate_node.new.1.1.1.0 c.gate_node.result c.gate_node.ensures

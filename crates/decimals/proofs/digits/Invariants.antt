@@ -1,0 +1,13 @@
+-- `decimals::digits` meets its contract. Assumes nothing.
+use borrow.Author.Rules.{rules}
+use mathlib.Core.Path.{sym, ◌∙◌}
+use lib.ListN.{length-set}
+use native.Mathlib.Omega.{arith}
+use Rattle.decimals.proofs.Decimals.{Half, half_none, half_more, half_end}
+use Rattle.decimals.proofs.digits.Given as goal
+
+abbrev pub invariant-loop-rest : goal.invariant-loop-rest
+invariant-loop-rest l = Half l.n l.room l.rest l.at
+
+abbrev pub decreases-loop-rest : goal.decreases-loop-rest
+decreases-loop-rest l = l.rest

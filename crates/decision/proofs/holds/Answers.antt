@@ -1,0 +1,14 @@
+-- `decision::holds` meets its contract. Assumes nothing.
+use borrow.Author.Rules.{rules}
+use mathlib.Core.Path.{◌≡◌}
+use native.Mathlib.Omega.{arith}
+use lib.ListN.{length}
+use Rattle.sets.specs.Words.{words}
+use Rattle.decision.proofs.Looking.{holds_lowest}
+use Rattle.decision.proofs.holds.Goals as goal
+
+long : (c : goal.After-lowest-arg) → length c.before.args.set.now ≡ words
+long c = search rules
+
+pub returns : goal.returns
+returns c = holds_lowest c.lowest.ensures (omega (arith, long c.before, c.requires))

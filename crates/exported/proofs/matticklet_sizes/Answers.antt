@@ -1,0 +1,7 @@
+-- `exported::matticklet_sizes` meets its contract. Assumes nothing.
+use mathlib.Core.Path.{refl}
+use borrow.Author.Rules.{rules}
+use Rattle.exported.proofs.matticklet_sizes.Goals as goal
+
+pub returns : goal.returns
+returns c = (c.sizes-r.result, (c.sizes-r.ensures, refl))

@@ -1,0 +1,45 @@
+-- `gates::gate_node` meets its contract. Assumes nothing.
+use borrow.Author.Rules.{rules}
+use mathlib.Core.List.{map}
+use lib.ListN.{take}
+use Rattle.tables.specs.Table.{den}
+use Rattle.paper.specs.Flat.{input_of}
+use Rattle.gates.proofs.ByKind.{gains_counted}
+use Rattle.gates.proofs.Counted.{all_of_and, all_of_or, distinct_of_least, found_fits, found_long, found_own}
+use Rattle.gates.proofs.gate_node.Goals as goal
+
+pub returns-then-kind-eq-AND : goal.returns-then-kind-eq-AND
+returns-then-kind-eq-AND c =
+    let g = c.gate_over in
+    let is = map input_of c.args.inputs.now in
+    gains_counted (map (den c.args.nodes.now) c.args.gates.now) c.args.kind c.args.k is c.args.nodes.now c.args.count g.new.0 g.new.1.0 g.new.1.1.0 g.new.1.1.1.0 g.result
+    is (all_of_and is c.if-kind-eq-AND.true) g.ensures
+
+pub returns-then-kind-eq-OR : goal.returns-then-kind-eq-OR
+returns-then-kind-eq-OR c =
+    let g = c.gate_over-then-kind-eq-OR in
+    let is = map input_of c.args.inputs.now in
+    gains_counted (map (den c.args.nodes.now) c.args.gates.now) c.args.kind c.args.k is c.args.nodes.now c.args.count g.new.0 g.new.1.0 g.new.1.1.0 g.new.1.1.1.0 g.result
+    is (all_of_or is c.if-kind-eq-AND.false c.if-kind-eq-OR.true) g.ensures
+
+pub slice_bounds-own-end : goal.slice_bounds-own-end
+slice_bounds-own-end c = found_fits c.distinct-n.ensures c.requires.within.1.0
+
+pub slice_bounds-gate_over-end : goal.slice_bounds-gate_over-end
+slice_bounds-gate_over-end c = found_long c.distinct-n.ensures c.requires.within.1.0
+
+pub gate_over-requires-2 : goal.gate_over-requires-2
+gate_over-requires-2 c =
+    record {
+      held = c.requires.held;
+      within = c.requires.within.0;
+      own = found_own c.distinct-n.ensures c.requires.within.1.0;
+      k_le_inputs = c.requires.within.1.1;
+    }
+
+pub returns : goal.returns
+returns c =
+    let g = c.gate_over-2 in
+    let is = map input_of c.args.inputs.now in
+    gains_counted (map (den c.args.nodes.now) c.args.gates.now) c.args.kind c.args.k is c.args.nodes.now c.args.count g.new.0 g.new.1.0 g.new.1.1.0 g.new.1.1.1.0 g.result
+    (map input_of (take c.distinct-n.result c.distinct-n.new.1.0)) (distinct_of_least c.distinct-n.ensures c.if-kind-eq-AND.false c.if-kind-eq-OR.false) g.ensures

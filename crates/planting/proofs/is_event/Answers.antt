@@ -1,0 +1,7 @@
+-- `planting::is_event` meets its contract. Assumes nothing.
+use borrow.Author.Rules.{rules}
+use Rattle.planting.proofs.Orders.{event_told}
+use Rattle.planting.proofs.is_event.Goals as goal
+
+pub returns : goal.returns
+returns c = event_told c.requires.arrays c.requires.x_lt_count

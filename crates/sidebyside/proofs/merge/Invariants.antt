@@ -1,0 +1,15 @@
+-- `sidebyside::merge` meets its contract. Assumes nothing.
+use borrow.Author.Rules.{rules}
+use native.Mathlib.Omega.{arith}
+use Prim.Native.Nat.{◌+◌, ◌-◌}
+use lib.ListN.{length}
+use Rattle.sidebyside.specs.Merging.{Merging}
+use Rattle.sidebyside.proofs.Walking.{walk_inside}
+use Rattle.sidebyside.proofs.Merging.{merge_start, merge_on}
+use Rattle.sidebyside.proofs.merge.Given as goal
+
+abbrev pub invariant-loop-r : goal.invariant-loop-r
+invariant-loop-r l = Merging l.y l.t l.r.i l.r.e l.r.j l.r.f l.r.gone l.r.new l.r.kept
+
+abbrev pub decreases-loop-r : goal.decreases-loop-r
+decreases-loop-r l = length l.y + length l.t - (l.r.i + l.r.j)

@@ -1,0 +1,12 @@
+-- `sidebyside::rest` meets its contract. Assumes nothing.
+use native.Mathlib.Omega.{arith}
+use Prim.Native.Nat.{◌-◌}
+use lib.ListN.{length}
+use Rattle.sidebyside.proofs.Walking.{walk_rises, Resting, rest_start, rest_fault, rest_left, rest_on, rest_next}
+use Rattle.sidebyside.proofs.rest.Given as goal
+
+abbrev pub invariant-loop-e : goal.invariant-loop-e
+invariant-loop-e l = Resting l.s l.at l.i l.e l.n
+
+abbrev pub decreases-loop-e : goal.decreases-loop-e
+decreases-loop-e l = length l.s - l.i

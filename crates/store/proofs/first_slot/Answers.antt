@@ -1,0 +1,30 @@
+-- `store::first_slot`
+use mathlib.Core.Path.{ap₂}
+use Prim.Native.Nat.{◌*◌, ◌/◌, ◌%◌}
+use native.Mathlib.Omega.{arith}
+use Rattle.store.specs.Store.{first_slot}
+use Rattle.store.proofs.Slots.{scaled_fits, scaled_below}
+use borrow.Author.Rules.{rules}
+use Rattle.store.proofs.first_slot.Goals as goal
+
+pub overflow_mul-y : goal.overflow_mul-y
+overflow_mul-y c =
+    let m = c.mixed-x in
+    let n = c.mixed in
+    let q = scaled_fits m.result n.result m.ensures.1 (omega (arith, n.ensures.1)) in search (rules, q)
+
+pub overflow_mul-result : goal.overflow_mul-result
+overflow_mul-result c =
+    let y = c.mixed-x.result * c.mixed.result % 4294967296 in
+    let q = scaled_fits y (c.args.slots % 4294967296) (omega arith) (omega arith) in search (rules, q)
+
+pub returns : goal.returns
+unfolding first_slot
+returns c =
+    let m = c.mixed-x in
+    let n = c.mixed in
+    let slots = c.args.slots in
+    record {
+      is = ap₂ (λ x z. x * z % 4294967296 * (slots % 4294967296) / 4294967296) m.ensures.0 n.ensures.0;
+      below = scaled_below (m.result * n.result % 4294967296) (slots % 4294967296) slots (omega arith) (omega arith) c.requires;
+    }

@@ -1,0 +1,8 @@
+-- `text::refusal` meets its contract. Assumes nothing.
+use borrow.Author.Rules.{rules}
+use mathlib.Core.Path.{refl}
+use Rattle.text.proofs.Putting.{put_counts}
+use Rattle.text.proofs.refusal.Goals as goal
+
+pub returns : goal.returns
+returns c = put_counts c.put_pair.ensures refl

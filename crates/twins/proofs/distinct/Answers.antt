@@ -1,0 +1,31 @@
+-- `twins::distinct` meets its contract. Assumes nothing.
+use borrow.Author.Rules.{rules}
+use native.Mathlib.Omega.{arith}
+use mathlib.Core.Path.{sym, ◌∙◌}
+use mathlib.Core.Logic.{⊎_elim}
+use Prim.Native.Nat.{◌-◌}
+use borrow.Author.Tests.{not-true, not-false}
+use lib.ListN.{length}
+use Rattle.twins.proofs.Sifting.{Sifting, sifting_start, sifting_few, sifting_twin, sifting_new, sifting_done}
+use Rattle.twins.proofs.distinct.Goals as goal
+
+pub loop-i-init : goal.loop-i-init
+loop-i-init c = sifting_start c.args.inputs.now c.args.out.now c.requires.out_len
+
+pub offset_bounds-out-n : goal.offset_bounds-out-n
+offset_bounds-out-n c = omega (arith, sifting_few c.loop-i.invariant, c.loop-i-test.true, c.requires.inputs_len_bound)
+
+pub bounds-out-n : goal.bounds-out-n
+bounds-out-n c = omega (arith, sifting_few c.loop-i.invariant, c.loop-i-test.true, c.requires.inputs_len_bound)
+
+pub overflow_add-n : goal.overflow_add-n
+overflow_add-n c = omega (arith, sifting_few c.loop-i.invariant, c.loop-i-test.true, c.requires.inputs_len_bound)
+
+pub loop-i-preserved : goal.loop-i-preserved
+loop-i-preserved c = ⊎_elim
+    (λ w. sifting_new c.loop-i.invariant c.loop-i-test.true (sym c.stands.ensures ∙ not-true _ w.0.taken) c.requires.inputs_len_bound w.1 w.2)
+    (λ w. sifting_twin c.loop-i.invariant c.loop-i-test.true (sym c.stands.ensures ∙ not-false _ w.0.left) w.1 w.2)
+    c.if-not-stands.branch
+
+pub returns : goal.returns
+returns c = sifting_done c.loop-i.invariant c.loop-i-test.false
