@@ -16,7 +16,7 @@ use Rattle.algebra.specs.Families.{without_d, cuts_d}
 use Rattle.algebra.proofs.Base.{put_same, put_other, eqb_or}
 use Rattle.algebra.proofs.Lists.{in_append, in_left, in_right, map_in, in_map, keep_in, in_keep}
 use Rattle.algebra.proofs.Fix.{eval_put}
-use Rattle.algebra.proofs.Sets.{put_put, put_id, part_put, part_false, not-true, mono_sound, failed_branch, cut_part, cut_of_part}
+use Rattle.algebra.proofs.Sets.{put_put, put_id, part_put, part_false, not_true, mono_sound, failed_branch, cut_part, cut_of_part}
 use Rattle.algebra.proofs.Without.{Fit, sets_mkz, sets_above, without_sets, tidy_cuts, fit_failed, fit_sound, fit_at}
 
 -- taking an event out leaves a part
