@@ -7,7 +7,7 @@ use Rattle.atleast.proofs.Taking.{Stage, stage_first, stage_within, stage_ready,
 use Rattle.atleast.proofs.at_least.Goals as goal
 
 pub loop-i-init : goal.loop-i-init
-loop-i-init c = (refl, refl, refl, stage_first c.requires.held c.requires.within.0)
+loop-i-init c = (refl, refl, refl, stage_first c.requires.held c.requires.within)
 
 pub take_input-requires : goal.take_input-requires
 take_input-requires c =
@@ -15,7 +15,7 @@ take_input-requires c =
       held = c.loop-i.invariant.3.taken.held;
       within = stage_within c.loop-i.invariant.3;
       i_in_bounds = omega (arith, c.loop-i.invariant.3.high, c.loop-i-test.true);
-      k_le_inputs = c.requires.within.1;
+      k_le_inputs = c.requires.k_le_inputs;
       reached = stage_ready c.loop-i.invariant.3 c.loop-i-test.true;
     }
 

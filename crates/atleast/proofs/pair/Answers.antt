@@ -4,13 +4,13 @@ use Rattle.atleast.proofs.Taking.{first_ready, second_ready, pair_first, pair_se
 use Rattle.atleast.proofs.pair.Goals as goal
 
 pub join-requires : goal.join-requires
-join-requires c = first_ready c.requires.held c.requires.x_bound.0 c.requires.x_bound.1.0 c.requires.x_bound.1.1
+join-requires c = first_ready c.requires.held c.requires.x_bound c.requires.less_bound c.requires.more_bound
 
 pub join-requires-in-Done : goal.join-requires-in-Done
-join-requires-in-Done c = second_ready c.requires.held c.requires.x_bound.0 c.requires.x_bound.1.0 c.requires.x_bound.1.1 (rw c.in-Done.is at c.join.ensures)
+join-requires-in-Done c = second_ready c.requires.held c.requires.x_bound c.requires.less_bound c.requires.more_bound (rw c.in-Done.is at c.join.ensures)
 
 pub returns-in-Done : goal.returns-in-Done
-returns-in-Done c = pair_second c.requires.held c.requires.x_bound.0 c.requires.x_bound.1.0 c.requires.x_bound.1.1 (rw c.in-Done.is at c.join.ensures) c.join-in-Done.new.0 c.join-in-Done.new.1.0 c.join-in-Done.new.1.1.0 c.join-in-Done.new.1.1.1.0 c.join-in-Done.result c.join-in-Done.ensures
+returns-in-Done c = pair_second c.requires.held c.requires.x_bound c.requires.less_bound c.requires.more_bound (rw c.in-Done.is at c.join.ensures) c.join-in-Done.new.0 c.join-in-Done.new.1.0 c.join-in-Done.new.1.1.0 c.join-in-Done.new.1.1.1.0 c.join-in-Done.result c.join-in-Done.ensures
 
 pub returns-in-Short : goal.returns-in-Short
-returns-in-Short c = pair_first c.requires.held c.requires.x_bound.0 c.requires.x_bound.1.0 c.requires.x_bound.1.1 (rw c.in-Short.is at c.join.ensures)
+returns-in-Short c = pair_first c.requires.held c.requires.x_bound c.requires.less_bound c.requires.more_bound (rw c.in-Short.is at c.join.ensures)

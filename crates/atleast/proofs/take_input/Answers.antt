@@ -7,7 +7,7 @@ use Rattle.atleast.proofs.Taking.{Pairing, pairing_start, x_here, less_in, more_
 use Rattle.atleast.proofs.take_input.Goals as goal
 
 pub loop-j-init : goal.loop-j-init
-loop-j-init c = (refl, refl, refl, pairing_start c.requires.held c.requires.within.0 c.requires.within.1.1.1 c.highest-j.ensures)
+loop-j-init c = (refl, refl, refl, pairing_start c.requires.held c.requires.within c.requires.reached c.highest-j.ensures)
 
 pub pair-requires : goal.pair-requires
 pair-requires c =
@@ -19,10 +19,10 @@ pair-requires c =
     }
 
 pub offset_bounds-row-j-in-Done : goal.offset_bounds-row-j-in-Done
-offset_bounds-row-j-in-Done c = omega (arith, c.loop-j.invariant.3.high, c.requires.within.1.1.0)
+offset_bounds-row-j-in-Done c = omega (arith, c.loop-j.invariant.3.high, c.requires.k_le_inputs)
 
 pub bounds-row-j-in-Done : goal.bounds-row-j-in-Done
-bounds-row-j-in-Done c = omega (arith, c.loop-j.invariant.3.high, c.requires.within.1.1.0)
+bounds-row-j-in-Done c = omega (arith, c.loop-j.invariant.3.high, c.requires.k_le_inputs)
 
 pub shape_of-nodes-in-Short : goal.shape_of-nodes-in-Short
 shape_of-nodes-in-Short c = c.pair.auto.nodes ∙ c.loop-j.invariant.3.step.grown.long
@@ -44,7 +44,7 @@ loop-j-preserved c = (
   c.pair.auto.heads ∙ c.loop-j.invariant.0,
   c.pair.auto.next ∙ c.loop-j.invariant.1,
   c.pair.auto.memo ∙ c.loop-j.invariant.2,
-  pairing_next c.loop-j.invariant.3 c.lowest-low.ensures c.loop-j-test.true c.requires.within.1.1.0 (rw c.in-Done.is at c.pair.ensures),
+  pairing_next c.loop-j.invariant.3 c.lowest-low.ensures c.loop-j-test.true c.requires.k_le_inputs (rw c.in-Done.is at c.pair.ensures),
 )
 
 pub shape_of-nodes : goal.shape_of-nodes

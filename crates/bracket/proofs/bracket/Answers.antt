@@ -10,14 +10,14 @@ use borrow.Author.Rules.{rules}
 use Rattle.bracket.proofs.bracket.Goals as goal
 
 -- what the tests showed on the way
-valid : (c : goal.Else1) → Lent false c.before.before.before.before.before.before.args.n c.before.before.before.before.before.before.args.nodes.now c.before.before.before.before.before.before.args.count c.before.before.before.before.before.before.args.root
-valid c = let t = c.before.is-diagram in says_true t.result (not-false t.result c.if1.false) t.ensures
+valid : (c : goal.Else-not-is_diagram) → Lent false c.args.n c.args.nodes.now c.args.count c.args.root
+valid c = let t = c.is_diagram in says_true t.result (not-false t.result c.if-not-is_diagram.false-raw) t.ensures
 
-enough : (c : goal.Else4) → Enough c.before.before.before.before.before.before.before.before.before.args.n c.before.before.before.before.before.before.before.before.before.args.nodes.now c.before.before.before.before.before.before.before.before.before.args.chances.now c.before.before.before.before.before.before.before.before.before.args.lows.now c.before.before.before.before.before.before.before.before.before.args.highs.now
+enough : (c : goal.Else-highs-capacity) → Enough c.args.n c.args.nodes.now c.args.chances.now c.args.lows.now c.args.highs.now
 enough c = record { chances = omega arith; lows = omega arith; highs = omega arith }
 
-priced : (c : goal.Else5) → Chances c.before.before.before.before.before.before.before.before.before.before.before.args.n c.before.before.before.before.before.before.before.before.before.before.before.args.chances.now
-priced c = let t = c.before.chances_ok in says_true t.result (not-false t.result c.if5.false) t.ensures
+priced : (c : goal.Else-not-chances_ok) → Chances c.args.n c.args.chances.now
+priced c = let t = c.chances_ok in says_true t.result (not-false t.result c.if-not-chances_ok.false-raw) t.ensures
 
 pub returns-then-not-is_diagram : goal.returns-then-not-is_diagram
 returns-then-not-is_diagram c =

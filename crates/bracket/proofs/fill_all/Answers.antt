@@ -11,30 +11,30 @@ use Rattle.bracket.proofs.Pass.{ready, filled_start, filled_next}
 use Rattle.bracket.proofs.fill_all.Goals as goal
 
 -- one turn: what was read of the node and its chance
-module _ (c : goal.After-wide invariant-loop decreases-loop) where
-  abbrev at : goal.Start invariant-loop decreases-loop
+module _ (c : goal.After-wide-a) where
+  abbrev at : goal.Start
   at = c.before.before.before.before.before.before.before.before.before.before.before
 
-  abbrev w : goal.At-loop invariant-loop decreases-loop
+  abbrev w : goal.At-loop-i
   w = c.before.before.before.before.before.before
 
   module _ (r : ℕ) (small : r < billion) (W : List ℕ) (long : at.args.count ≤ length W) (fill : Filled r at.args.chances.now at.args.nodes.now W w.loop.i) where
-    can : Ready W w.loop.i c.before.before.before.failed-of.result c.before.before.sound-of.result c.wide.result r
+    can : Ready W w.loop.i c.failed_of-f.result c.sound_of-s.result c.wide-a.result r
     can =
-        ready at.pre.0 r small c.before.before.before.before.event-of.ensures c.before.before.before.failed-of.ensures c.before.before.sound-of.ensures c.wide.ensures
-        w.loop.inv.0 c.before.before.before.before.before.loop-test.true long fill
+        ready at.pre.0 r small c.event_of-e.ensures c.failed_of-f.ensures c.sound_of-s.ensures c.wide-a.ensures
+        w.loop.inv.0 c.loop-i-test.true long fill
 
-    more : (Q : List ℕ) → Q ≡ set W (w.loop.i - 2) ((c.wide.result * number_in W c.before.before.before.failed-of.result + (billion - c.wide.result) * number_in W c.before.before.sound-of.result + r) / billion)
+    more : (Q : List ℕ) → Q ≡ set W (w.loop.i - 2) ((c.wide-a.result * number_in W c.failed_of-f.result + (billion - c.wide-a.result) * number_in W c.sound_of-s.result + r) / billion)
         → Filled r at.args.chances.now at.args.nodes.now Q (w.loop.i + 1)
     more Q =
-        filled_next at.pre.0 r small c.before.before.before.before.event-of.ensures c.before.before.before.failed-of.ensures c.before.before.sound-of.ensures c.wide.ensures
-        w.loop.inv.0 c.before.before.before.before.before.loop-test.true long fill
+        filled_next at.pre.0 r small c.event_of-e.ensures c.failed_of-f.ensures c.sound_of-s.ensures c.wide-a.ensures
+        w.loop.inv.0 c.loop-i-test.true long fill
 
-low : (c : goal.After-event-of invariant-loop decreases-loop) → c.event-of.result < c.before.before.before.before.before.before.before.args.n
+low : (c : goal.After-event_of-e) → c.event_of-e.result < c.args.n
 low c =
     let s = c.before.before.before.before.before.before.before in
-    let h = (lent_node s.requires.0.lent {i = c.before.before.loop.i} (omega arith) (omega arith)).event in
-    omega (arith, c.event-of.ensures)
+    let h = (lent_node s.requires.0.lent {i = c.loop-i.i} (omega arith) (omega arith)).event in
+    omega (arith, c.event_of-e.ensures)
 
 pub loop-i-init : goal.loop-i-init
 loop-i-init c = (

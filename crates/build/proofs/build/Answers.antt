@@ -9,9 +9,9 @@ pub build_over-requires : goal.build_over-requires
 build_over-requires c =
     record {
       areas = c.requires.areas;
-      plan = c.requires.plan.0;
-      sizes_in_bounds = c.requires.plan.1.0;
-      sizes_in_bounds_2 = c.requires.plan.1.1;
+      plan = c.requires.plan;
+      sizes_in_bounds = c.requires.sizes_in_bounds;
+      sizes_in_bounds_2 = c.requires.sizes_in_bounds_2;
       places = places_one;
     }
 
@@ -22,8 +22,8 @@ pub build_over-requires-2 : goal.build_over-requires-2
 build_over-requires-2 c =
     record {
       areas = c.requires.areas;
-      plan = c.requires.plan.0;
-      sizes_in_bounds = c.requires.plan.1.0;
-      sizes_in_bounds_2 = c.requires.plan.1.1;
+      plan = c.requires.plan;
+      sizes_in_bounds = c.requires.sizes_in_bounds;
+      sizes_in_bounds_2 = c.requires.sizes_in_bounds_2;
       places = places_used c.args.memo.now _ c.used-n.ensures c.if-n-lt4.false;
     }

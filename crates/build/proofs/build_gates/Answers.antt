@@ -9,7 +9,7 @@ use Rattle.build.proofs.Sofar.{Going, sofar_within, going_start, going_next, goi
 use Rattle.build.proofs.build_gates.Goals as goal
 
 pub loop-g-init : goal.loop-g-init
-loop-g-init c = (refl, refl, refl, going_start c.requires.sizes_in_bounds.0 c.requires.sizes_in_bounds.1.0 c.requires.sizes_in_bounds.1.1)
+loop-g-init c = (refl, refl, refl, going_start c.requires.sizes_in_bounds c.requires.sizes_in_bounds_2 c.requires.sofar)
 
 pub next_gate-requires : goal.next_gate-requires
 next_gate-requires c =

@@ -8,10 +8,10 @@ use Rattle.build.proofs.build_over.Goals as goal
 pub build_gates-requires : goal.build_gates-requires
 build_gates-requires c =
     record {
-      plan = c.requires.plan.0;
-      sizes_in_bounds = omega (arith, c.requires.plan.1.0, c.clear-4.auto.work);
-      sizes_in_bounds_2 = omega (arith, c.requires.plan.1.1.0, c.clear-5.auto.work);
-      sofar = sofar_cleared _ c.args.memo.now c.args.gates.now c.args.added.now c.requires.areas c.clear.ensures c.clear-2.ensures c.clear-3.ensures c.clear-4.ensures c.clear-5.ensures c.requires.plan.1.1.1;
+      plan = c.requires.plan;
+      sizes_in_bounds = omega (arith, c.requires.sizes_in_bounds, c.clear-4.auto.work);
+      sizes_in_bounds_2 = omega (arith, c.requires.sizes_in_bounds_2, c.clear-5.auto.work);
+      sofar = sofar_cleared _ c.args.memo.now c.args.gates.now c.args.added.now c.requires.areas c.clear.ensures c.clear-2.ensures c.clear-3.ensures c.clear-4.ensures c.clear-5.ensures c.requires.places;
     }
 
 pub returns : goal.returns

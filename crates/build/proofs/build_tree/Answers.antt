@@ -21,10 +21,10 @@ pub build-requires : goal.build-requires
 build-requires c =
     let n = array_sizes c.requires.arrays in
     record {
-      areas = c.requires.areas.0;
+      areas = c.requires.areas;
       plan = c.requires.arrays.plan;
-      sizes_in_bounds = omega (arith, n, c.requires.areas.1.0);
-      sizes_in_bounds_2 = omega (arith, n, c.requires.areas.1.1);
+      sizes_in_bounds = omega (arith, n, c.requires.gate_count_in_bounds);
+      sizes_in_bounds_2 = omega (arith, n, c.requires.gate_count_in_bounds_2);
     }
 
 pub returns : goal.returns

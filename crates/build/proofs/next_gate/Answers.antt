@@ -7,28 +7,28 @@ use Rattle.build.proofs.Gates.{gate_fits, gate_own, gate_least, gate_is}
 use Rattle.build.proofs.next_gate.Goals as goal
 
 pub bounds-sizes-g : goal.bounds-sizes-g
-bounds-sizes-g c = omega (arith, c.requires.within.1.1.1.0)
+bounds-sizes-g c = omega (arith, c.requires.g_in_bounds)
 
 pub overflow_cast-end : goal.overflow_cast-end
-overflow_cast-end c = omega (arith, c.requires.within.1.0.few _ c.requires.within.1.1.1.0)
+overflow_cast-end c = omega (arith, c.requires.plan.few _ c.requires.g_in_bounds)
 
 pub overflow_add-end : goal.overflow_add-end
-overflow_add-end c = omega (arith, gate_fits c.requires.within.1.0 c.requires.within.1.1.1.0 c.requires.within.1.1.1.1, c.well_formed.1.1.1.1.1.1.1.1.0)
+overflow_add-end c = omega (arith, gate_fits c.requires.plan c.requires.g_in_bounds c.requires.at_value, c.well_formed.1.1.1.1.1.1.1.1.0)
 
 pub offset_bounds-inputs-at : goal.offset_bounds-inputs-at
-offset_bounds-inputs-at c = omega (arith, gate_fits c.requires.within.1.0 c.requires.within.1.1.1.0 c.requires.within.1.1.1.1, c.well_formed.1.1.1.1.1.1.1.1.0)
+offset_bounds-inputs-at c = omega (arith, gate_fits c.requires.plan c.requires.g_in_bounds c.requires.at_value, c.well_formed.1.1.1.1.1.1.1.1.0)
 
 pub slice_bounds-gate_node-end : goal.slice_bounds-gate_node-end
-slice_bounds-gate_node-end c = omega (arith, gate_fits c.requires.within.1.0 c.requires.within.1.1.1.0 c.requires.within.1.1.1.1)
+slice_bounds-gate_node-end c = omega (arith, gate_fits c.requires.plan c.requires.g_in_bounds c.requires.at_value)
 
 pub gate_node-requires : goal.gate_node-requires
 gate_node-requires c =
     record {
       held = c.requires.held;
-      within = c.requires.within.0;
-      own = gate_own c.requires.within.1.0 c.requires.within.1.1.1.0 c.requires.within.1.1.1.1 _ c.requires.within.1.1.0;
-      k_le_inputs = gate_least c.requires.within.1.0 c.requires.within.1.1.1.0 c.requires.within.1.1.1.1;
+      within = c.requires.within;
+      own = gate_own c.requires.plan c.requires.g_in_bounds c.requires.at_value _ c.requires.sizes_in_bounds;
+      k_le_inputs = gate_least c.requires.plan c.requires.g_in_bounds c.requires.at_value;
     }
 
 pub returns : goal.returns
-returns c = gate_is c.requires.within.1.0 c.requires.within.1.1.1.0 c.requires.within.1.1.1.1 (map (den c.args.nodes.now) c.args.gates.now) c.args.nodes.now c.args.count c.gate_node.new.0 c.gate_node.new.1.0 c.gate_node.new.1.1.0 c.gate_node.new.1.1.1.0 c.gate_node.result c.gate_node.ensures
+returns c = gate_is c.requires.plan c.requires.g_in_bounds c.requires.at_value (map (den c.args.nodes.now) c.args.gates.now) c.args.nodes.now c.args.count c.gate_node.new.0 c.gate_node.new.1.0 c.gate_node.new.1.1.0 c.gate_node.new.1.1.1.0 c.gate_node.result c.gate_node.ensures

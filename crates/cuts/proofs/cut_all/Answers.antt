@@ -8,12 +8,12 @@ use Rattle.cuts.proofs.Up.{Lengths, up_end}
 use Rattle.cuts.proofs.cut_all.Goals as goal
 
 pub loop-i-init : goal.loop-i-init
-loop-i-init c = (c.requires.halfway.0, omega arith, omega arith, record { cut = refl; heads = refl; next = refl; memo = refl; own = refl })
+loop-i-init c = (c.requires.halfway, omega arith, omega arith, record { cut = refl; heads = refl; next = refl; memo = refl; own = refl })
 
 pub cut_step-requires : goal.cut_step-requires
 cut_step-requires c =
     let base = c.requires.base in
-    let long = c.requires.halfway.1 in
+    let long = c.requires.root_in_bounds in
     let halfway = c.loop-i.invariant.0 in
     let two = c.loop-i.invariant.1 in
     let same = c.loop-i.invariant.3 in
@@ -54,7 +54,7 @@ returns-in-Short c = rw c.in-Short.is at c.cut_step.ensures
 
 pub overflow_add-i : goal.overflow_add-i
 overflow_add-i c =
-    let long = c.requires.halfway.1 in
+    let long = c.requires.root_in_bounds in
     let bytes = c.well_formed.1.1.1.1.0 in
     let more = c.loop-i-test.true in
     omega (arith, more, long, bytes)
@@ -68,14 +68,14 @@ loop-i-preserved c =
 
 pub offset_bounds-own-root : goal.offset_bounds-own-root
 offset_bounds-own-root c =
-    let long = c.requires.halfway.1 in
+    let long = c.requires.root_in_bounds in
     let bytes = c.well_formed.1.1.1.1.0 in
     let same = c.loop-i.invariant.3 in
     omega (arith, bytes, same.own, long)
 
 pub bounds-own-root : goal.bounds-own-root
 bounds-own-root c =
-    let long = c.requires.halfway.1 in
+    let long = c.requires.root_in_bounds in
     let same = c.loop-i.invariant.3 in
     omega (arith, same.own, long)
 

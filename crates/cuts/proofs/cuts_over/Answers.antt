@@ -9,7 +9,7 @@ use Rattle.cuts.proofs.cuts_over.Goals as goal
 pub mark-requires : goal.mark-requires
 mark-requires c =
     let function = c.requires.readable in
-    let room = c.requires.room.0 in
+    let room = c.requires.room in
     record {
       held = function.held;
       root_in_bounds = room.marks;
@@ -18,12 +18,12 @@ mark-requires c =
 pub cut_all-requires : goal.cut_all-requires
 cut_all-requires c =
     let function = c.requires.readable in
-    let room = c.requires.room.0 in
+    let room = c.requires.room in
     let same = c.mark.auto.marks in
     let memo = c.args.memo.now in
     record {
       base = record { function = function; marked = c.mark.ensures; long = omega (arith, same, room.marks) };
-      halfway = up_start memo (room_marks same room) c.clear.ensures c.clear-2.ensures c.clear-3.ensures c.requires.room.1;
+      halfway = up_start memo (room_marks same room) c.clear.ensures c.clear-2.ensures c.clear-3.ensures c.requires.places;
       root_in_bounds = simp length-set room.own;
     }
 

@@ -13,35 +13,35 @@ returns-then-marks-i-ne1 c =
 pub offset_bounds-marks-f : goal.offset_bounds-marks-f
 offset_bounds-marks-f c =
     let held = c.requires.held in
-    let two = c.requires.le_i.0 in
+    let two = c.requires.le_i in
     let low-failed = failed_below held two in
     omega (arith, c.failed_of-f.ensures, low-failed)
 
 pub bounds-marks-f : goal.bounds-marks-f
 bounds-marks-f c =
     let held = c.requires.held in
-    let two = c.requires.le_i.0 in
+    let two = c.requires.le_i in
     let low-failed = failed_below held two in
     omega (arith, c.failed_of-f.ensures, low-failed)
 
 pub offset_bounds-marks-s : goal.offset_bounds-marks-s
 offset_bounds-marks-s c =
     let held = c.requires.held in
-    let two = c.requires.le_i.0 in
+    let two = c.requires.le_i in
     let low-sound = sound_below held two in
     omega (arith, c.sound_of-s.ensures, low-sound)
 
 pub bounds-marks-s : goal.bounds-marks-s
 bounds-marks-s c =
     let held = c.requires.held in
-    let two = c.requires.le_i.0 in
+    let two = c.requires.le_i in
     let low-sound = sound_below held two in
     simp length-set (omega (arith, c.sound_of-s.ensures, low-sound))
 
 pub returns : goal.returns
 returns c =
     let held = c.requires.held in
-    let two = c.requires.le_i.0 in
+    let two = c.requires.le_i in
     let marks = c.args.marks.now in
     let low-failed = failed_below held two in
     let low-sound = sound_below held two in

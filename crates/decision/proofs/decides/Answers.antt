@@ -10,7 +10,7 @@ use Rattle.decision.proofs.Looking.{beyond_low, not_beyond}
 use Rattle.decision.proofs.Contains.{refused_now, decided_now}
 use Rattle.decision.proofs.decides.Goals as goal
 
-long : (c : goal.Start) → length c.args.t3 ≡ words
+long : (c : goal.Start) → length c.args.s ≡ words
 long c = search rules
 
 pub returns-then-lowest-lt-MOST : goal.returns-then-lowest-lt-MOST

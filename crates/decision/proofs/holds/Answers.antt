@@ -7,7 +7,7 @@ use Rattle.sets.specs.Words.{words}
 use Rattle.decision.proofs.Looking.{holds_lowest}
 use Rattle.decision.proofs.holds.Goals as goal
 
-long : (c : goal.After-lowest-arg) → length c.before.args.set.now ≡ words
+long : (c : goal.After-lowest-arg-1) → length c.args.set.now ≡ words
 long c = search rules
 
 pub returns : goal.returns

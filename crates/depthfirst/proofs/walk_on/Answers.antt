@@ -12,19 +12,19 @@ use Rattle.depthfirst.proofs.Turns.{top_room, top_inside, name_inside, listed, l
 use Rattle.depthfirst.proofs.walk_on.Goals as goal
 
 pub offset_bounds-mark-first : goal.offset_bounds-mark-first
-offset_bounds-mark-first c = omega (arith, c.wide-first.ensures, c.requires.rooms.1.1, c.requires.rooms.0.marks)
+offset_bounds-mark-first c = omega (arith, c.wide-first.ensures, c.requires.root_lt_count, c.requires.rooms.marks)
 
 pub bounds-mark-first : goal.bounds-mark-first
-bounds-mark-first c = omega (arith, c.wide-first.ensures, c.requires.rooms.1.1, c.requires.rooms.0.marks)
+bounds-mark-first c = omega (arith, c.wide-first.ensures, c.requires.root_lt_count, c.requires.rooms.marks)
 
 pub returns-then-mark-first-ge2 : goal.returns-then-mark-first-ge2
-returns-then-mark-first-ge2 c = seen_before c.requires.rooms.0 c.requires.rooms.1.0 c.requires.rooms.1.1 c.wide-first.ensures c.if-mark-first-ge2.true
+returns-then-mark-first-ge2 c = seen_before c.requires.rooms c.requires.idle c.requires.root_lt_count c.wide-first.ensures c.if-mark-first-ge2.true
 
 pub enter-requires : goal.enter-requires
-enter-requires c = (omega (arith, c.requires.rooms.1.1, c.requires.arrays.long), omega (arith, c.requires.rooms.1.1, c.requires.rooms.0.marks), omega (arith, c.requires.rooms.1.1, c.requires.rooms.0.stack), omega (arith, c.requires.rooms.1.1, c.requires.rooms.0.places))
+enter-requires c = (omega (arith, c.requires.root_lt_count, c.requires.arrays.long), omega (arith, c.requires.root_lt_count, c.requires.rooms.marks), omega (arith, c.requires.root_lt_count, c.requires.rooms.stack), omega (arith, c.requires.root_lt_count, c.requires.rooms.places))
 
 pub loop-depth-init : goal.loop-depth-init
-loop-depth-init c = (going_start c.requires.rooms.0 c.requires.rooms.1.0 c.requires.rooms.1.1 c.wide-first.ensures c.if-mark-first-ge2.false c.enter.ensures, refl, refl, refl, refl)
+loop-depth-init c = (going_start c.requires.rooms c.requires.idle c.requires.root_lt_count c.wide-first.ensures c.if-mark-first-ge2.false c.enter.ensures, refl, refl, refl, refl)
 
 pub offset_bounds-stack-top : goal.offset_bounds-stack-top
 offset_bounds-stack-top c = omega (arith, top_room c.requires.arrays c.loop-depth.invariant.0 c.loop-depth-test.true, c.ranges.count)

@@ -23,18 +23,18 @@ returns-then-kind-eq-OR c =
     is (all_of_or is c.if-kind-eq-AND.false c.if-kind-eq-OR.true) g.ensures
 
 pub slice_bounds-own-end : goal.slice_bounds-own-end
-slice_bounds-own-end c = found_fits c.distinct-n.ensures c.requires.within.1.0
+slice_bounds-own-end c = found_fits c.distinct-n.ensures c.requires.own
 
 pub slice_bounds-gate_over-end : goal.slice_bounds-gate_over-end
-slice_bounds-gate_over-end c = found_long c.distinct-n.ensures c.requires.within.1.0
+slice_bounds-gate_over-end c = found_long c.distinct-n.ensures c.requires.own
 
 pub gate_over-requires-2 : goal.gate_over-requires-2
 gate_over-requires-2 c =
     record {
       held = c.requires.held;
-      within = c.requires.within.0;
-      own = found_own c.distinct-n.ensures c.requires.within.1.0;
-      k_le_inputs = c.requires.within.1.1;
+      within = c.requires.within;
+      own = found_own c.distinct-n.ensures c.requires.own;
+      k_le_inputs = c.requires.k_le_inputs;
     }
 
 pub returns : goal.returns

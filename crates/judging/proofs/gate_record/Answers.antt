@@ -14,4 +14,4 @@ pub returns-in-4 : goal.returns-in-4
 returns-in-4 c = (rw c.in-4.is, own_least _ _)
 
 pub returns-in_default : goal.returns-in_default
-returns-in_default c = (let r = c.in_default.rest in simp (ne_eqb _ _ r.1, ne_eqb _ _ r.0.1, ne_eqb _ _ r.0.0.1), own_unknown)
+returns-in_default c = (let r = c.in_default.in_default-own.rest in simp (ne_eqb _ _ r.1, ne_eqb _ _ r.0.1, ne_eqb _ _ r.0.0.1), own_unknown)

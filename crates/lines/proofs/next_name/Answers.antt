@@ -7,10 +7,10 @@ pub name_end-e-requires : goal.name_end-e-requires
 name_end-e-requires c = c.requires.i_in_bounds
 
 pub returns-then-e-s : goal.returns-then-e-s
-returns-then-e-s c = steps_last c.requires.divides.0 c.name_end-e.ensures c.requires.divides.1 (omega (arith, c.if-e-s.true))
+returns-then-e-s c = steps_last c.requires.divides c.name_end-e.ensures c.requires.s_value (omega (arith, c.if-e-s.true))
 
 pub overflow_add-result : goal.overflow_add-result
-overflow_add-result c = omega (arith, (steps_more c.requires.divides.0 c.name_end-e.ensures c.requires.divides.1 (omega (arith, c.if-e-s.false, c.name_end-e.ensures.inside))).inside)
+overflow_add-result c = omega (arith, (steps_more c.requires.divides c.name_end-e.ensures c.requires.s_value (omega (arith, c.if-e-s.false, c.name_end-e.ensures.inside))).inside)
 
 pub returns : goal.returns
-returns c = steps_more c.requires.divides.0 c.name_end-e.ensures c.requires.divides.1 (omega (arith, c.if-e-s.false, c.name_end-e.ensures.inside))
+returns c = steps_more c.requires.divides c.name_end-e.ensures c.requires.s_value (omega (arith, c.if-e-s.false, c.name_end-e.ensures.inside))

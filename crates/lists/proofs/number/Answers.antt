@@ -7,4 +7,4 @@ use lib.ListN.{length}
 use Rattle.lists.proofs.number.Goals as goal
 
 pub loop-at-preserved : goal.loop-at-preserved
-loop-at-preserved c = ⊎_elim (λ w. omega arith) (λ w. omega arith) c.if-v-lt100000000.branch
+loop-at-preserved c = ⊎_elim (λ w. omega arith) (λ w. omega arith) c.if-v-lt100000000.branch-raw

@@ -7,10 +7,10 @@ use Rattle.names.proofs.Interning.{Seek, seek_start, seek_miss, turn_room, turn_
 use Rattle.names.proofs.find.Goals as goal
 
 pub bounds-heads-h : goal.bounds-heads-h
-bounds-heads-h c = c.requires.ends.1.below
+bounds-heads-h c = c.requires.first.below
 
 pub loop-i-init : goal.loop-i-init
-loop-i-init c = seek_start c.requires.interned c.requires.ends.1
+loop-i-init c = seek_start c.requires.interned c.requires.first
 
 pub overflow_sub-k : goal.overflow_sub-k
 overflow_sub-k c = omega (arith, c.loop-i-test.true, c.place-k.ensures)
@@ -25,7 +25,7 @@ pub same_name-requires : goal.same_name-requires
 same_name-requires c =
     record {
       a_in_bounds = turn_inside c.requires.interned c.loop-i-test.true c.loop-i.invariant c.place-k.ensures c.place-a.ensures;
-      ends = c.requires.ends.0;
+      ends = c.requires.ends;
     }
 
 pub returns-then-same_name : goal.returns-then-same_name

@@ -12,7 +12,7 @@ use Rattle.remaining.proofs.Answering.{few_events}
 use Rattle.planner.proofs.Checking.{found_first, found_none, searched_of, Trying, try_start, try_next, try_drop, try_end, within_set, less_beyond, area_kept}
 use Rattle.planner.proofs.judge_members.Goals as goal
 
-four : (c : goal.Start invariant-loop decreases-loop) → length c.args.t5 ≡ words
+four : (c : goal.Start) → length c.args.set ≡ words
 four c = search rules
 
 pub loop-e-init : goal.loop-e-init

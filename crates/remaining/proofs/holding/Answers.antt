@@ -10,7 +10,7 @@ use Rattle.remaining.specs.Tallies.{no_diagram, too_short, beyond, summed}
 use Rattle.remaining.proofs.Answering.{beyond_low, not_beyond, unwritten_now}
 use Rattle.remaining.proofs.holding.Goals as goal
 
-four : (c : goal.Start) → length c.args.t5 ≡ words
+four : (c : goal.Start) → length c.args.set ≡ words
 four c = search rules
 
 pub returns-then-not-is_diagram : goal.returns-then-not-is_diagram

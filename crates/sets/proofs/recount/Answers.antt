@@ -7,11 +7,11 @@ use Rattle.sets.proofs.Beside.{Counting, low_word, high_word, recount_ahead, rec
 use native.Mathlib.Omega.{arith}
 use Rattle.sets.proofs.recount.Goals as goal
 
-few : (c : goal.After-shared-slice-known invariant-loop decreases-loop) → ones (get_or c.before.before.args.ws.now (c.before.before.args.low / 64) 0) ≤ 64
-few c = ones-le 64 _ (c.shared-slice-known.given (c.before.before.args.low / 64)).fits
+few : (c : goal.After-shared_slice_known-1) → ones (get_or c.args.ws.now (c.args.low / 64) 0) ≤ 64
+few c = ones-le 64 _ (c.type_inv.ws (c.args.low / 64)).fits
 
-few-2 : (c : goal.After-shared-slice-known2 invariant-loop decreases-loop) → ones (get_or c.before.before.before.before.before.args.ws.now (c.before.before.loop.k + 1) 0) ≤ 64
-few-2 c = ones-le 64 _ (c.shared-slice-known2.given (c.before.before.loop.k + 1)).fits
+few-2 : (c : goal.After-shared_slice_known-in-loop-k-1) → ones (get_or c.args.ws.now (c.loop-k.k + 1) 0) ≤ 64
+few-2 c = ones-le 64 _ (c.type_inv.ws (c.loop-k.k + 1)).fits
 
 pub offset_bounds-ahead-k : goal.offset_bounds-ahead-k
 offset_bounds-ahead-k c = omega arith

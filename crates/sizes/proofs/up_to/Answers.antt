@@ -11,7 +11,7 @@ use Rattle.sizes.proofs.Totals.{totals_more, two_more, two_on, totals_end, total
 use Rattle.sizes.proofs.up_to.Goals as goal
 
 pub loop-k-init : goal.loop-k-init
-loop-k-init c = (refl, refl, c.requires.last_value.0.2, c.requires.held.2)
+loop-k-init c = (refl, refl, c.requires.last_value.2, c.requires.held.2)
 
 pub one_size-requires : goal.one_size-requires
 one_size-requires c =
@@ -19,7 +19,7 @@ one_size-requires c =
     let listed = c.requires.held.1 in
     let before = c.loop-k.invariant.3 in
     let len0 = c.loop-k.invariant.0 in
-    let long = c.requires.last_value.1 in
+    let long = c.requires.root_in_bounds in
     let len1 = c.loop-k.invariant.1 in
     record {
       held = (held, listed, before);
@@ -33,21 +33,21 @@ pub bounds-work-root : goal.bounds-work-root
 bounds-work-root c =
     let kept1 = c.one_size.auto.work in
     let len1 = c.loop-k.invariant.1 in
-    let long = c.requires.last_value.1 in
+    let long = c.requires.root_in_bounds in
     omega (arith, kept1, len1, long.1)
 
 pub bounds-totals-k : goal.bounds-totals-k
 bounds-totals-k c =
     let inside = c.loop-k-test.true in
-    let few = c.requires.last_value.0.1 in
+    let few = c.requires.last_value.1 in
     omega (arith, inside, few)
 
 pub returns-then-k-last : goal.returns-then-k-last
 returns-then-k-last c =
-    let deep = c.requires.last_value.0.0 in
+    let deep = c.requires.last_value.0 in
     let totals = c.loop-k.invariant.2 in
     let inside = c.loop-k-test.true in
-    let few = c.requires.last_value.0.1 in
+    let few = c.requires.last_value.1 in
     let fits1 = (c.one_size.ensures.fits (not-false c.one_size.result c.if-not-one_size.false-raw)) in
     let one = (totals_more totals (omega (arith, inside, few)) fits1 refl) in
     totals_end (omega (arith, c.if-k-last.true, deep)) one
@@ -55,7 +55,7 @@ returns-then-k-last c =
 pub overflow_add-k : goal.overflow_add-k
 overflow_add-k c =
     let inside = c.loop-k-test.true in
-    let few = c.requires.last_value.0.1 in
+    let few = c.requires.last_value.1 in
     omega (arith, inside, few)
 
 pub one_size-requires-in-loop-k : goal.one_size-requires-in-loop-k
@@ -65,7 +65,7 @@ one_size-requires-in-loop-k c =
     let fits1 = (c.one_size.ensures.fits (not-false c.one_size.result c.if-not-one_size.false-raw)) in
     let kept1 = c.one_size.auto.work in
     let len1 = c.loop-k.invariant.1 in
-    let long = c.requires.last_value.1 in
+    let long = c.requires.root_in_bounds in
     let len0 = c.loop-k.invariant.0 in
     record {
       held = (held, listed, fits1);
@@ -79,25 +79,25 @@ pub bounds-less-root : goal.bounds-less-root
 bounds-less-root c =
     let kept2 = c.one_size-in-loop-k.auto.work in
     let len0 = c.loop-k.invariant.0 in
-    let long = c.requires.last_value.1 in
+    let long = c.requires.root_in_bounds in
     omega (arith, kept2, len0, long.0)
 
 pub overflow_add-totals : goal.overflow_add-totals
 overflow_add-totals c =
     let inside = c.loop-k-test.true in
-    let few = c.requires.last_value.0.1 in
+    let few = c.requires.last_value.1 in
     omega (arith, inside, few)
 
 pub bounds-totals-k-in-loop-k : goal.bounds-totals-k-in-loop-k
 bounds-totals-k-in-loop-k c =
     let inside = c.loop-k-test.true in
-    let few = c.requires.last_value.0.1 in
+    let few = c.requires.last_value.1 in
     omega (arith, inside, c.if-k-last.false, few)
 
 pub overflow_add-k-in-loop-k : goal.overflow_add-k-in-loop-k
 overflow_add-k-in-loop-k c =
     let inside = c.loop-k-test.true in
-    let few = c.requires.last_value.0.1 in
+    let few = c.requires.last_value.1 in
     omega (arith, inside, few)
 
 pub loop-k-smaller : goal.loop-k-smaller
@@ -109,7 +109,7 @@ pub loop-k-preserved : goal.loop-k-preserved
 loop-k-preserved c =
     let totals = c.loop-k.invariant.2 in
     let inside = c.loop-k-test.true in
-    let few = c.requires.last_value.0.1 in
+    let few = c.requires.last_value.1 in
     let fits1 = (c.one_size.ensures.fits (not-false c.one_size.result c.if-not-one_size.false-raw)) in
     let fits2 = (c.one_size-in-loop-k.ensures.fits (not-false c.one_size-in-loop-k.result c.if-not-one_size-2.false-raw)) in
     let both = (two_more totals (omega (arith, inside, c.if-k-last.false, few)) fits1 refl fits2 refl) in
@@ -122,6 +122,6 @@ loop-k-preserved c =
 
 pub returns : goal.returns
 returns c =
-    let deep = c.requires.last_value.0.0 in
+    let deep = c.requires.last_value.0 in
     let totals = c.loop-k.invariant.2 in
     totals_end (omega (arith, c.loop-k-test.false, deep)) totals

@@ -8,8 +8,8 @@ use lib.ListN.{length-append, length-replicate, length-drop, drop_of_length-le}
 use borrow.Author.Fill.{fill_none, fill_more}
 use Rattle.totals.proofs.clear.Goals as goal
 
-long : (c : goal.At-loop invariant-loop decreases-loop) → length c.loop.area ≡ length c.before.args.area.now
-long c = ap length c.loop.invariant.1 ∙ simp (length-append, length-replicate, length-drop) (omega arith)
+long : (c : goal.At-loop-i) → length c.loop-i.area ≡ length c.args.area.now
+long c = ap length c.loop-i.invariant.1 ∙ simp (length-append, length-replicate, length-drop) (omega arith)
 
 pub loop-i-init : goal.loop-i-init
 loop-i-init c = (omega arith, fill_none c.args.area.now 0)

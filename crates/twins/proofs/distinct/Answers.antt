@@ -25,7 +25,7 @@ pub loop-i-preserved : goal.loop-i-preserved
 loop-i-preserved c = ⊎_elim
     (λ w. sifting_new c.loop-i.invariant c.loop-i-test.true (sym c.stands.ensures ∙ not-true _ w.0.taken) c.requires.inputs_len_bound w.1 w.2)
     (λ w. sifting_twin c.loop-i.invariant c.loop-i-test.true (sym c.stands.ensures ∙ not-false _ w.0.left) w.1 w.2)
-    c.if-not-stands.branch
+    c.if-not-stands.branch-raw
 
 pub returns : goal.returns
 returns c = sifting_done c.loop-i.invariant c.loop-i-test.false

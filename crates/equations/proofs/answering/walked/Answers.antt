@@ -12,11 +12,11 @@ pub walk_all-w-requires : goal.walk_all-w-requires
 walk_all-w-requires c =
     record {
       arrays = c.requires.known.arrays;
-      rooms = c.requires.room.0.rooms;
+      rooms = c.requires.room.rooms;
     }
 
 pub show_ring-requires : goal.show_ring-requires
-show_ring-requires c = ring_at c.requires.known (rw c.in-Back.is at c.walk_all-w.ensures) (omega (arith, c.walk_all-w.auto.stack, c.requires.room.1.0)) c.requires.room.1.1
+show_ring-requires c = ring_at c.requires.known (rw c.in-Back.is at c.walk_all-w.ensures) (omega (arith, c.walk_all-w.auto.stack, c.requires.heads_in_bounds.0)) c.requires.heads_in_bounds.1
 
 pub overflow_sub-e : goal.overflow_sub-e
 overflow_sub-e c = omega (arith, (rw c.in-Back.is at c.walk_all-w.ensures).some)
@@ -25,7 +25,7 @@ pub rooted-requires : goal.rooted-requires
 rooted-requires c =
     record {
       known = c.requires.known;
-      room = room_kept c.requires.room.0 c.walk_all-w.auto.mark c.walk_all-w.auto.stack c.walk_all-w.auto.at c.walk_all-w.auto.order;
+      room = room_kept c.requires.room c.walk_all-w.auto.mark c.walk_all-w.auto.stack c.walk_all-w.auto.at c.walk_all-w.auto.order;
       all_in_order = all_count (rw c.in-Done.is at c.walk_all-w.ensures);
     }
 

@@ -8,10 +8,10 @@ pub returns-then-code-lt-GATES_FROM : goal.returns-then-code-lt-GATES_FROM
 returns-then-code-lt-GATES_FROM c = names_event _ c.args.code c.args.nodes.now c.args.count c.event_node.new.0 c.event_node.new.1.0 c.event_node.new.1.1.0 c.event_node.result c.if-code-lt-GATES_FROM.true c.event_node.ensures
 
 pub bounds-gates-g : goal.bounds-gates-g
-bounds-gates-g c = omega (arith, c.requires.within.1 c.if-code-lt-FAILED_FROM.true)
+bounds-gates-g c = omega (arith, c.requires.code_bound c.if-code-lt-FAILED_FROM.true)
 
 pub returns-then-code-lt-FAILED_FROM : goal.returns-then-code-lt-FAILED_FROM
-returns-then-code-lt-FAILED_FROM c = names_gate c.requires.store c.requires.within.0 c.if-code-lt-GATES_FROM.false c.if-code-lt-FAILED_FROM.true (c.requires.within.1 c.if-code-lt-FAILED_FROM.true)
+returns-then-code-lt-FAILED_FROM c = names_gate c.requires.store c.requires.within c.if-code-lt-GATES_FROM.false c.if-code-lt-FAILED_FROM.true (c.requires.code_bound c.if-code-lt-FAILED_FROM.true)
 
 pub returns-then-code-lt-SOUND_FROM : goal.returns-then-code-lt-SOUND_FROM
 returns-then-code-lt-SOUND_FROM c = names_failed _ _ c.requires.store c.if-code-lt-FAILED_FROM.false c.if-code-lt-SOUND_FROM.true

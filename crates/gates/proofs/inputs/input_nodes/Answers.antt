@@ -8,21 +8,21 @@ use Rattle.gates.proofs.Rows.{Lining, lining_start, lining_within, lining_next, 
 use Rattle.gates.proofs.inputs.input_nodes.Goals as goal
 
 pub loop-i-init : goal.loop-i-init
-loop-i-init c = (refl, refl, lining_start c.requires.store c.requires.within.0 c.requires.within.1.1)
+loop-i-init c = (refl, refl, lining_start c.requires.store c.requires.within c.requires.row_len)
 
 pub input_node-requires : goal.input_node-requires
 input_node-requires c =
     record {
       store = c.loop-i.invariant.2.made.step.store;
       within = lining_within c.loop-i.invariant.2;
-      code_bound = c.requires.within.1.0.earlier _ c.loop-i-test.true;
+      code_bound = c.requires.own.earlier _ c.loop-i-test.true;
     }
 
 pub offset_bounds-row-i : goal.offset_bounds-row-i
-offset_bounds-row-i c = omega (arith, c.loop-i-test.true, c.requires.within.1.0.few)
+offset_bounds-row-i c = omega (arith, c.loop-i-test.true, c.requires.own.few)
 
 pub bounds-row-i : goal.bounds-row-i
-bounds-row-i c = omega (arith, c.loop-i-test.true, c.requires.within.1.0.few)
+bounds-row-i c = omega (arith, c.loop-i-test.true, c.requires.own.few)
 
 pub shape_of-nodes-in-Short : goal.shape_of-nodes-in-Short
 shape_of-nodes-in-Short c = c.input_node.auto.nodes ∙ c.loop-i.invariant.2.made.step.grown.long
@@ -40,7 +40,7 @@ pub loop-i-preserved : goal.loop-i-preserved
 loop-i-preserved c = (
   c.input_node.auto.heads ∙ c.loop-i.invariant.0,
   c.input_node.auto.next ∙ c.loop-i.invariant.1,
-  lining_next c.loop-i.invariant.2 c.loop-i-test.true c.requires.within.1.0.few (rw c.in-Done.is at c.input_node.ensures),
+  lining_next c.loop-i.invariant.2 c.loop-i-test.true c.requires.own.few (rw c.in-Done.is at c.input_node.ensures),
 )
 
 pub shape_of-nodes : goal.shape_of-nodes

@@ -10,8 +10,8 @@ pub joined-requires : goal.joined-requires
 joined-requires c =
     record {
       held = c.requires.held;
-      within = c.requires.within.0;
-      in_bounds = c.requires.within.1.0;
+      within = c.requires.within;
+      in_bounds = c.requires.in_bounds;
       z_bound = omega arith;
     }
 
@@ -22,8 +22,8 @@ pub joined-requires-then-kind-eq-OR : goal.joined-requires-then-kind-eq-OR
 joined-requires-then-kind-eq-OR c =
     record {
       held = c.requires.held;
-      within = c.requires.within.0;
-      in_bounds = c.requires.within.1.0;
+      within = c.requires.within;
+      in_bounds = c.requires.in_bounds;
       z_bound = omega arith;
     }
 
@@ -34,8 +34,8 @@ pub at_least-requires : goal.at_least-requires
 at_least-requires c =
     record {
       held = c.requires.held;
-      within = c.requires.within.0;
-      k_le_inputs = c.requires.within.1.1;
+      within = c.requires.within;
+      k_le_inputs = c.requires.k_le_inputs;
     }
 
 pub returns : goal.returns

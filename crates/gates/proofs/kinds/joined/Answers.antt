@@ -10,10 +10,10 @@ use Rattle.gates.proofs.Folding.{Joining, joining_start, joining_ready, joining_
 use Rattle.gates.proofs.kinds.joined.Goals as goal
 
 pub loop-i-init : goal.loop-i-init
-loop-i-init c = (refl, refl, refl, joining_start _ c.requires.held c.requires.within.0 c.requires.within.1.0)
+loop-i-init c = (refl, refl, refl, joining_start _ c.requires.held c.requires.within c.requires.in_bounds)
 
 pub join-requires : goal.join-requires
-join-requires c = joining_ready c.loop-i.invariant.3 c.loop-i-test.true c.requires.within.1.1
+join-requires c = joining_ready c.loop-i.invariant.3 c.loop-i-test.true c.requires.z_bound
 
 pub shape_of-nodes-in-Short : goal.shape_of-nodes-in-Short
 shape_of-nodes-in-Short c = c.join.auto.nodes ∙ c.loop-i.invariant.3.gained.made.step.grown.long

@@ -8,8 +8,8 @@ use lib.ListN.{length-append, length-replicate, length-drop, drop_of_length-le}
 use borrow.Author.Fill.{fill_none, fill_more}
 use Rattle.remaining.proofs.counts.clear.Goals as goal
 
-long : (c : goal.At-loop invariant-loop decreases-loop) → length c.loop.work ≡ length c.before.args.work.now
-long c = ap length c.loop.invariant.1 ∙ simp (length-append, length-replicate, length-drop) (omega arith)
+long : (c : goal.At-loop-i) → length c.loop-i.work ≡ length c.args.work.now
+long c = ap length c.loop-i.invariant.1 ∙ simp (length-append, length-replicate, length-drop) (omega arith)
 
 pub loop-i-init : goal.loop-i-init
 loop-i-init c = (omega arith, fill_none c.args.work.now 0)

@@ -106,4 +106,4 @@ unfolding body_of
 returns-in-17 c = rw (c.four-in-17.ensures, c.two-in-17.ensures) (is_whole _ 17 c.in-17.is c.if-b-eq0.false (λ z. omega arith) (rw (c.length-n.ensures, c.in-17.is) at c.if-b-n.false))
 
 pub returns-in_default : goal.returns-in_default
-returns-in_default c = let r = c.in_default.rest in body_end _ _ r.0.0.0.0.0.0.0.1 r.0.0.0.0.0.0.1 r.0.0.0.0.0.1 r.0.0.0.0.1 r.0.0.0.1 r.0.0.1 r.0.1 r.1 ∙ is_whole _ _ refl c.if-b-eq0.false (λ z. c.if-n-eq0.false (c.length-n.ensures ∙ z)) (rw c.length-n.ensures at c.if-b-n.false)
+returns-in_default c = let r = c.in_default.in_default-own.rest in body_end _ _ r.0.0.0.0.0.0.0.1 r.0.0.0.0.0.0.1 r.0.0.0.0.0.1 r.0.0.0.0.1 r.0.0.0.1 r.0.0.1 r.0.1 r.1 ∙ is_whole _ _ refl c.if-b-eq0.false (λ z. c.if-n-eq0.false (c.length-n.ensures ∙ z)) (rw c.length-n.ensures at c.if-b-n.false)

@@ -12,14 +12,14 @@ use Rattle.scanning.proofs.Fitting.{inputs_fit}
 use Rattle.scanning.proofs.inputs.fill.Goals as goal
 
 pub loop-n-init : goal.loop-n-init
-loop-n-init c = (filling_start c.args.starts.now c.requires.places.1.0, refl, refl)
+loop-n-init c = (filling_start c.args.starts.now c.requires.count_in_bounds.0, refl, refl)
 
 pub fill_name-used-requires : goal.fill_name-used-requires
 fill_name-used-requires c =
     record {
       gathered = c.requires.gathered;
-      site = site_at c.requires.places.0 (omega (arith, c.loop-n-test.true, c.place-c.ensures));
-      n_in_bounds = filling_room c.loop-n.invariant.0 (omega (arith, c.loop-n-test.true, c.place-c.ensures)) (omega (arith, inputs_fit c.requires.gathered, c.requires.places.1.1, c.loop-n.invariant.2));
+      site = site_at c.requires.places (omega (arith, c.loop-n-test.true, c.place-c.ensures));
+      n_in_bounds = filling_room c.loop-n.invariant.0 (omega (arith, c.loop-n-test.true, c.place-c.ensures)) (omega (arith, inputs_fit c.requires.gathered, c.requires.count_in_bounds.1, c.loop-n.invariant.2));
     }
 
 pub overflow_add-n : goal.overflow_add-n

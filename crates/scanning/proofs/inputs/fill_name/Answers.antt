@@ -6,15 +6,15 @@ use Rattle.scanning.proofs.Filling.{bad_put, chance_put, inputs_of, size_of, kno
 use Rattle.scanning.proofs.inputs.fill_name.Goals as goal
 
 pub line_of-r-requires : goal.line_of-r-requires
-line_of-r-requires c = c.requires.site.0
+line_of-r-requires c = c.requires.site
 
 pub fill_row-requires : goal.fill_row-requires
 fill_row-requires c =
     record {
       gathered = c.requires.gathered;
       row_at = or_row c.line_of-r.ensures c.in-Or.is;
-      text_value = known_of c.requires.site.0 (or_is c.line_of-r.ensures c.in-Or.is);
-      text_in_bounds = omega (arith, size_of c.requires.site.0 (or_is c.line_of-r.ensures c.in-Or.is), c.requires.site.1);
+      text_value = known_of c.requires.site (or_is c.line_of-r.ensures c.in-Or.is);
+      text_in_bounds = omega (arith, size_of c.requires.site (or_is c.line_of-r.ensures c.in-Or.is), c.requires.n_in_bounds);
     }
 
 pub fill_row-requires-in-And : goal.fill_row-requires-in-And
@@ -22,8 +22,8 @@ fill_row-requires-in-And c =
     record {
       gathered = c.requires.gathered;
       row_at = and_row c.line_of-r.ensures c.in-And.is;
-      text_value = known_of c.requires.site.0 (and_is c.line_of-r.ensures c.in-And.is);
-      text_in_bounds = omega (arith, size_of c.requires.site.0 (and_is c.line_of-r.ensures c.in-And.is), c.requires.site.1);
+      text_value = known_of c.requires.site (and_is c.line_of-r.ensures c.in-And.is);
+      text_in_bounds = omega (arith, size_of c.requires.site (and_is c.line_of-r.ensures c.in-And.is), c.requires.n_in_bounds);
     }
 
 pub fill_row-requires-in-AtLeast : goal.fill_row-requires-in-AtLeast
@@ -31,21 +31,21 @@ fill_row-requires-in-AtLeast c =
     record {
       gathered = c.requires.gathered;
       row_at = least_row c.line_of-r.ensures c.in-AtLeast.is;
-      text_value = known_of c.requires.site.0 (least_is c.line_of-r.ensures c.in-AtLeast.is);
-      text_in_bounds = omega (arith, size_of c.requires.site.0 (least_is c.line_of-r.ensures c.in-AtLeast.is), c.requires.site.1);
+      text_value = known_of c.requires.site (least_is c.line_of-r.ensures c.in-AtLeast.is);
+      text_in_bounds = omega (arith, size_of c.requires.site (least_is c.line_of-r.ensures c.in-AtLeast.is), c.requires.n_in_bounds);
     }
 
 pub returns-in-Bad : goal.returns-in-Bad
-returns-in-Bad c = bad_put c.requires.site.0 c.requires.site.1 c.line_of-r.ensures c.in-Bad.is
+returns-in-Bad c = bad_put c.requires.site c.requires.n_in_bounds c.line_of-r.ensures c.in-Bad.is
 
 pub returns-in-Chance : goal.returns-in-Chance
-returns-in-Chance c = chance_put c.requires.site.0 c.requires.site.1 c.line_of-r.ensures c.in-Chance.is
+returns-in-Chance c = chance_put c.requires.site c.requires.n_in_bounds c.line_of-r.ensures c.in-Chance.is
 
 pub returns-in-Or : goal.returns-in-Or
-returns-in-Or c = rw (inputs_of c.requires.site.0 (or_is c.line_of-r.ensures c.in-Or.is)) c.fill_row.ensures
+returns-in-Or c = rw (inputs_of c.requires.site (or_is c.line_of-r.ensures c.in-Or.is)) c.fill_row.ensures
 
 pub returns-in-And : goal.returns-in-And
-returns-in-And c = rw (inputs_of c.requires.site.0 (and_is c.line_of-r.ensures c.in-And.is)) c.fill_row-in-And.ensures
+returns-in-And c = rw (inputs_of c.requires.site (and_is c.line_of-r.ensures c.in-And.is)) c.fill_row-in-And.ensures
 
 pub returns-in-AtLeast : goal.returns-in-AtLeast
-returns-in-AtLeast c = rw (inputs_of c.requires.site.0 (least_is c.line_of-r.ensures c.in-AtLeast.is)) c.fill_row-in-AtLeast.ensures
+returns-in-AtLeast c = rw (inputs_of c.requires.site (least_is c.line_of-r.ensures c.in-AtLeast.is)) c.fill_row-in-AtLeast.ensures

@@ -7,38 +7,38 @@ use Rattle.scanning.proofs.Filling.{FillingRow, fill_start, fill_here, fill_room
 use Rattle.scanning.proofs.inputs.fill_row.Goals as goal
 
 pub loop-j-init : goal.loop-j-init
-loop-j-init c = fill_start c.requires.row_at.0 c.requires.row_at.1.0 c.requires.row_at.1.1
+loop-j-init c = fill_start c.requires.row_at c.requires.text_value c.requires.text_in_bounds
 
 pub next_in_line-to-requires : goal.next_in_line-to-requires
-next_in_line-to-requires c = fill_here c.requires.gathered c.requires.row_at.0 c.loop-j.invariant c.loop-j-test.true
+next_in_line-to-requires c = fill_here c.requires.gathered c.requires.row_at c.loop-j.invariant c.loop-j-test.true
 
 pub look-f-requires : goal.look-f-requires
 look-f-requires c =
     record {
       interned = c.requires.gathered.store;
-      at_in_bounds = omega (arith, c.loop-j-test.true, c.requires.row_at.0.inside);
+      at_in_bounds = omega (arith, c.loop-j-test.true, c.requires.row_at.inside);
     }
 
 pub overflow_sub-inputs : goal.overflow_sub-inputs
-overflow_sub-inputs c = omega (arith, fill_some c.requires.gathered c.requires.row_at.0 c.loop-j.invariant c.loop-j-test.true c.next_in_line-to.ensures c.look-f.ensures)
+overflow_sub-inputs c = omega (arith, fill_some c.requires.gathered c.requires.row_at c.loop-j.invariant c.loop-j-test.true c.next_in_line-to.ensures c.look-f.ensures)
 
 pub offset_bounds-inputs-u : goal.offset_bounds-inputs-u
-offset_bounds-inputs-u c = omega (arith, fill_room c.requires.gathered c.requires.row_at.0 c.loop-j.invariant c.loop-j-test.true c.next_in_line-to.ensures c.requires.row_at.1.1)
+offset_bounds-inputs-u c = omega (arith, fill_room c.requires.gathered c.requires.row_at c.loop-j.invariant c.loop-j-test.true c.next_in_line-to.ensures c.requires.text_in_bounds)
 
 pub bounds-inputs-u : goal.bounds-inputs-u
-bounds-inputs-u c = omega (arith, fill_room c.requires.gathered c.requires.row_at.0 c.loop-j.invariant c.loop-j-test.true c.next_in_line-to.ensures c.requires.row_at.1.1)
+bounds-inputs-u c = omega (arith, fill_room c.requires.gathered c.requires.row_at c.loop-j.invariant c.loop-j-test.true c.next_in_line-to.ensures c.requires.text_in_bounds)
 
 pub overflow_add-u : goal.overflow_add-u
-overflow_add-u c = omega (arith, fill_room c.requires.gathered c.requires.row_at.0 c.loop-j.invariant c.loop-j-test.true c.next_in_line-to.ensures c.requires.row_at.1.1)
+overflow_add-u c = omega (arith, fill_room c.requires.gathered c.requires.row_at c.loop-j.invariant c.loop-j-test.true c.next_in_line-to.ensures c.requires.text_in_bounds)
 
 pub loop-j-smaller : goal.loop-j-smaller
 loop-j-smaller c = omega (arith, c.next_in_line-to.ensures.after, c.loop-j-test.true)
 
 pub loop-j-preserved : goal.loop-j-preserved
-loop-j-preserved c = fill_turn c.requires.gathered c.requires.row_at.0 c.loop-j.invariant c.loop-j-test.true c.next_in_line-to.ensures c.look-f.ensures (omega (arith, fill_room c.requires.gathered c.requires.row_at.0 c.loop-j.invariant c.loop-j-test.true c.next_in_line-to.ensures c.requires.row_at.1.1))
+loop-j-preserved c = fill_turn c.requires.gathered c.requires.row_at c.loop-j.invariant c.loop-j-test.true c.next_in_line-to.ensures c.look-f.ensures (omega (arith, fill_room c.requires.gathered c.requires.row_at c.loop-j.invariant c.loop-j-test.true c.next_in_line-to.ensures c.requires.text_in_bounds))
 
 pub shape_of-inputs : goal.shape_of-inputs
 shape_of-inputs c = c.loop-j.invariant.long
 
 pub returns : goal.returns
-returns c = fill_end c.requires.gathered c.requires.row_at.0 c.loop-j.invariant c.loop-j-test.false
+returns c = fill_end c.requires.gathered c.requires.row_at c.loop-j.invariant c.loop-j-test.false

@@ -9,13 +9,13 @@ use Rattle.scanning.proofs.Giving.{giving_start, giving_end}
 use Rattle.scanning.proofs.judging.give.Goals as goal
 
 pub loop-at-init : goal.loop-at-init
-loop-at-init c = (giving_start (omega (arith, c.clear.auto.heads, c.requires.places.1.0)) (omega (arith, c.clear-2.auto.heads, c.requires.places.1.1)) c.clear.ensures c.clear-2.ensures, refl, refl)
+loop-at-init c = (giving_start (omega (arith, c.clear.auto.heads, c.requires.count_in_bounds.0)) (omega (arith, c.clear-2.auto.heads, c.requires.count_in_bounds.1)) c.clear.ensures c.clear-2.ensures, refl, refl)
 
 pub give_line-w-requires : goal.give_line-w-requires
 give_line-w-requires c =
     record {
       gathered = c.requires.gathered;
-      places = c.requires.places.0;
+      places = c.requires.places;
       giving = c.loop-at.invariant.0;
       at_in_bounds = c.loop-at-test.true;
     }

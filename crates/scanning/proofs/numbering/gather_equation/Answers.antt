@@ -8,15 +8,15 @@ pub intern-n-requires : goal.intern-n-requires
 intern-n-requires c =
     record {
       interned = c.requires.interned;
-      at_in_bounds = (omega (arith, c.requires.row_at.1.1, c.requires.row_at.0.from, c.requires.row_at.0.inside), omega (arith, c.requires.row_at.1.1, c.requires.row_at.0.from, c.requires.row_at.0.inside, c.requires.row_at.1.0.long, c.requires.row_at.1.0.low));
+      at_in_bounds = (omega (arith, c.requires.at_lt_i, c.requires.row_at.from, c.requires.row_at.inside), omega (arith, c.requires.at_lt_i, c.requires.row_at.from, c.requires.row_at.inside, c.requires.room.long, c.requires.room.low));
     }
 
 pub gather_row-requires : goal.gather_row-requires
 gather_row-requires c =
     record {
       interned = c.intern-n.ensures.store;
-      row_at = c.requires.row_at.0;
-      room = room_behind c.intern-n.ensures c.requires.row_at.1.0 c.requires.row_at.1.1;
+      row_at = c.requires.row_at;
+      room = room_behind c.intern-n.ensures c.requires.room c.requires.at_lt_i;
     }
 
 pub returns : goal.returns

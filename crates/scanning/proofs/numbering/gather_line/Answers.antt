@@ -5,14 +5,14 @@ use Rattle.scanning.proofs.Gathering.{bad_line, chance_line_lem, or_after, and_a
 use Rattle.scanning.proofs.numbering.gather_line.Goals as goal
 
 pub line-r-requires : goal.line-r-requires
-line-r-requires c = c.requires.room.1
+line-r-requires c = c.requires.at_in_bounds
 
 pub gather_equation-n-requires : goal.gather_equation-n-requires
 gather_equation-n-requires c =
     record {
       interned = c.requires.interned;
       row_at = or_row (line_at c.line-r.ensures) c.in-Or.is;
-      room = c.requires.room.0;
+      room = c.requires.room;
       at_lt_i = or_after c.line-r.ensures c.in-Or.is;
     }
 
@@ -21,7 +21,7 @@ gather_equation-n-requires-in-And c =
     record {
       interned = c.requires.interned;
       row_at = and_row (line_at c.line-r.ensures) c.in-And.is;
-      room = c.requires.room.0;
+      room = c.requires.room;
       at_lt_i = and_after c.line-r.ensures c.in-And.is;
     }
 
@@ -30,15 +30,15 @@ gather_equation-n-requires-in-AtLeast c =
     record {
       interned = c.requires.interned;
       row_at = least_row (line_at c.line-r.ensures) c.in-AtLeast.is;
-      room = c.requires.room.0;
+      room = c.requires.room;
       at_lt_i = least_after c.line-r.ensures c.in-AtLeast.is;
     }
 
 pub returns-in-Bad : goal.returns-in-Bad
-returns-in-Bad c = bad_line c.line-r.ensures c.in-Bad.is c.requires.interned c.requires.room.0
+returns-in-Bad c = bad_line c.line-r.ensures c.in-Bad.is c.requires.interned c.requires.room
 
 pub returns-in-Chance : goal.returns-in-Chance
-returns-in-Chance c = chance_line_lem c.line-r.ensures c.in-Chance.is c.requires.interned c.requires.room.0
+returns-in-Chance c = chance_line_lem c.line-r.ensures c.in-Chance.is c.requires.interned c.requires.room
 
 pub returns-in-Or : goal.returns-in-Or
 returns-in-Or c = equation_line c.line-r.ensures (or_row (line_at c.line-r.ensures) c.in-Or.is) (or_is (line_at c.line-r.ensures) c.in-Or.is) c.gather_equation-n.ensures

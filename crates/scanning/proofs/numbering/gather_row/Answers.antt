@@ -7,23 +7,23 @@ use Rattle.scanning.proofs.Gathering.{GatheringRow, row_start, row_room, row_her
 use Rattle.scanning.proofs.numbering.gather_row.Goals as goal
 
 pub loop-j-init : goal.loop-j-init
-loop-j-init c = (row_start c.requires.interned c.requires.row_at.0 c.requires.row_at.1, refl, refl)
+loop-j-init c = (row_start c.requires.interned c.requires.row_at c.requires.room, refl, refl)
 
 pub intern-n-requires : goal.intern-n-requires
 intern-n-requires c =
     record {
       interned = c.loop-j.invariant.0.store;
-      at_in_bounds = row_room c.requires.row_at.0 c.loop-j.invariant.0 c.requires.row_at.1 c.loop-j-test.true;
+      at_in_bounds = row_room c.requires.row_at c.loop-j.invariant.0 c.requires.room c.loop-j-test.true;
     }
 
 pub next_in_line-j-requires : goal.next_in_line-j-requires
-next_in_line-j-requires c = row_here c.requires.row_at.0 c.loop-j.invariant.0 c.loop-j-test.true
+next_in_line-j-requires c = row_here c.requires.row_at c.loop-j.invariant.0 c.loop-j-test.true
 
 pub loop-j-smaller : goal.loop-j-smaller
 loop-j-smaller c = omega (arith, c.next_in_line-j.ensures.after, c.loop-j-test.true)
 
 pub loop-j-preserved : goal.loop-j-preserved
-loop-j-preserved c = (row_turn c.requires.row_at.0 c.loop-j.invariant.0 c.loop-j-test.true c.intern-n.ensures c.next_in_line-j.ensures, c.intern-n.auto.heads ∙ c.loop-j.invariant.1, c.intern-n.auto.next ∙ c.loop-j.invariant.2)
+loop-j-preserved c = (row_turn c.requires.row_at c.loop-j.invariant.0 c.loop-j-test.true c.intern-n.ensures c.next_in_line-j.ensures, c.intern-n.auto.heads ∙ c.loop-j.invariant.1, c.intern-n.auto.next ∙ c.loop-j.invariant.2)
 
 pub shape_of-heads : goal.shape_of-heads
 shape_of-heads c = c.loop-j.invariant.1
@@ -35,4 +35,4 @@ pub shape_of-names : goal.shape_of-names
 shape_of-names c = c.loop-j.invariant.0.long
 
 pub returns : goal.returns
-returns c = row_end c.requires.row_at.0 c.loop-j.invariant.0 c.loop-j-test.false
+returns c = row_end c.requires.row_at c.loop-j.invariant.0 c.loop-j-test.false
