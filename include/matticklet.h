@@ -2,7 +2,7 @@
  *
  * Every call answers for any arguments and never fails otherwise: `number` is 0 for done, else the reason of a refusal (below).
  * The library holds no state, allocates nothing, and touches only what it is lent, until it returns. What memory that is lent to be
- * written holds before a call never matters. A call takes up to some 470 KB of stack (measured, not proved).
+ * written holds before a call never matters. A call takes up to some 470 KB of stack (measured with the older kit, not proved).
  *
  * A caller from C must keep what the language keeps for its own callers:
  *   - a pointer is never null, also where the length beside it is 0, and is aligned for its type;

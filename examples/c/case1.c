@@ -1,5 +1,5 @@
 /* Case 1 from C: its analysis, its cuts in a small room at a time, and its bracket.
- * cc -Iinclude examples/c/case1.c target/staticlib/libexported.a */
+ * cc -Iinclude examples/c/case1.c crates/exported/out/libexported.a */
 #include <inttypes.h>
 #include <stdio.h>
 #include <string.h>

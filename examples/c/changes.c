@@ -1,5 +1,5 @@
 /* Two days compared from C: both trees are analysed and their cuts listed; then the first cut that is new or gone, and how many are.
- * cc -Iinclude examples/c/changes.c target/staticlib/libexported.a -o changes && ./changes examples/case1.tree examples/case6.tree */
+ * cc -Iinclude examples/c/changes.c crates/exported/out/libexported.a -o changes && ./changes examples/case1.tree examples/case6.tree */
 #include <inttypes.h>
 #include <stdio.h>
 

@@ -1,6 +1,6 @@
 /* Does the root fail? From C, for somebody who has a listing and not the tree: a file with the bytes of a listing, how many events its tree has, and the numbers of
  * the events that failed.
- * cc -Iinclude examples/c/decide.c target/staticlib/libexported.a -o decide && ./decide examples/case1.listing 3 0 1 */
+ * cc -Iinclude examples/c/decide.c crates/exported/out/libexported.a -o decide && ./decide examples/case1.listing 3 0 1 */
 #include <inttypes.h>
 #include <stdio.h>
 #include <stdlib.h>

@@ -1,6 +1,6 @@
 /* Typed equations from C: a text on standard input is imported, its tree analysed, and its cuts printed by the names that were typed; where the nodes
  * do not suffice, the name of the gate that filled their table.
- * cc -Iinclude examples/c/equations.c target/staticlib/libexported.a -o equations && ./equations < examples/corridor.txt */
+ * cc -Iinclude examples/c/equations.c crates/exported/out/libexported.a -o equations && ./equations < examples/corridor.txt */
 #include <inttypes.h>
 #include <stdio.h>
 #include <string.h>

@@ -1,5 +1,5 @@
 /* Which event matters most, from C: a tree's events in order of rank, each with its two numbers of billionths.
- * cc -Iinclude examples/c/importance.c target/staticlib/libexported.a -o importance && ./importance examples/case1.tree */
+ * cc -Iinclude examples/c/importance.c crates/exported/out/libexported.a -o importance && ./importance examples/case1.tree */
 #include <inttypes.h>
 #include <stdio.h>
 

@@ -1,6 +1,6 @@
 /* What to keep sound, from C: a text on standard input is imported and its tree analysed; a set of its events is proposed, or the one that is named, and
  * checked. As long as the checker names a member that could be dropped, the set is checked again without it.
- * cc -Iinclude examples/c/plan.c target/staticlib/libexported.a -o plan && ./plan < examples/corridor.txt && ./plan clockNorth server < examples/corridor.txt */
+ * cc -Iinclude examples/c/plan.c crates/exported/out/libexported.a -o plan && ./plan < examples/corridor.txt && ./plan clockNorth server < examples/corridor.txt */
 #include <inttypes.h>
 #include <stdio.h>
 #include <string.h>

@@ -1,5 +1,5 @@
 /* Reportable cuts from C: of the tree on the standard input, under an edition of the review rule; the edition that was told, then a line for each cut.
- * cc -Iinclude examples/c/report.c target/staticlib/libexported.a -o report && ./report 2 < examples/corridor.tree */
+ * cc -Iinclude examples/c/report.c crates/exported/out/libexported.a -o report && ./report 2 < examples/corridor.tree */
 #include <inttypes.h>
 #include <stdio.h>
 #include <stdlib.h>

@@ -1,6 +1,6 @@
 /* A tree in a season, from C: the tree on the standard input, a store of settings, and the edition that is asked for; the nodes, a line for each cut, and the two
  * numbers that enclose the root's chance there.
- * cc -Iinclude examples/c/season.c target/staticlib/libexported.a -o season && ./season examples/corridor.store 1 < examples/corridor.tree */
+ * cc -Iinclude examples/c/season.c crates/exported/out/libexported.a -o season && ./season examples/corridor.store 1 < examples/corridor.tree */
 #include <inttypes.h>
 #include <stdio.h>
 #include <stdlib.h>

@@ -1,5 +1,5 @@
 /* Sites from C: a tree on the standard input is moved to the form with sites, or back to that without, on the standard output; a refusal is told.
- * cc -Iinclude examples/c/sites.c target/staticlib/libexported.a -o sites && ./sites to < examples/corridor.tree > corridor.moved */
+ * cc -Iinclude examples/c/sites.c crates/exported/out/libexported.a -o sites && ./sites to < examples/corridor.tree > corridor.moved */
 #include <inttypes.h>
 #include <stdio.h>
 #include <string.h>

@@ -1,5 +1,5 @@
 /* Cuts by size from C: the trees in the files that are named are counted together, and a line printed for each size that occurs.
- * cc -Iinclude examples/c/sizes.c target/staticlib/libexported.a -o sizes && ./sizes examples/corridor.tree */
+ * cc -Iinclude examples/c/sizes.c crates/exported/out/libexported.a -o sizes && ./sizes examples/corridor.tree */
 #include <inttypes.h>
 #include <stdio.h>
 

@@ -8,7 +8,7 @@ second=../second/target/release/second
 # the number that tables with so much room are answered
 number() { $second analyse "$@" | head -n 1 | awk '{ print $1 == "refused" ? $2 : 0 }'; }
 
-sed -n 's/^    show(b"\([^"]*\)", \([a-z]*\));$/\1 \2/p' ../../crates/counts/src/main.rt | while read -r name listed; do
+sed -n 's/^    show([^"]*"\([^"]*\)", \([a-z]*\))[?;]*$/\1 \2/p' ../../crates/counts/src/main.rt | while read -r name listed; do
     file=../../crates/counts/data/$name
     counts=$($second counts "$file")
     nodes=$(echo "$counts" | sed -n 's/^nodes //p')
