@@ -30,7 +30,7 @@ def own_files():
                         yield os.path.join(folder, f)
 
 
-FUNCTION = re.compile(r"/(Proof|Answers|Invariants)\.antt$")
+FUNCTION = re.compile(r"/proofs/(?:[^/]+/)+(Proof|Answers|Invariants)\.antt$")
 
 
 def respelled(name):
@@ -239,7 +239,7 @@ def main(argv):
 LEMMAS = """
     diagram-of part-of importance-high importance-low same-input any-in distinct-inputs chance-line gate-line event-name gate-name tree-of in-line
     place-in event-in dict-in lines-of line-feed by-line names-of is-event plan-from distinct-codes answer-of codes-of distinct-at some-missing
-    is-equation bit-xor bit-and bit-or bytes-by gone-by is-node told-event told-least
+    is-equation bit-xor bit-and bit-or bytes-by gone-by is-node told-event told-least last-or
 """.split()
 # Two names that become one and stand apart all the same: fields of two records, or a field and what it speaks of.
 APART = """

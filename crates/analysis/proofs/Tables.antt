@@ -9,7 +9,7 @@ use lib.ListN.{length, get_or}
 use Rattle.paper.specs.Trees.{events, root_fun}
 use Rattle.paper.specs.Trees as paper
 use Rattle.paper.specs.Diagrams.{eval}
-use Rattle.paper.specs.Answers.{CutsFull, cutNodesOf}
+use Rattle.paper.specs.Answers.{CutsFull, cut_nodes_of}
 use Rattle.algebra.proofs.Without.{Fit}
 use Rattle.tables.specs.Table.{den}
 use Rattle.tables.specs.Lent.{Lent}
@@ -55,7 +55,7 @@ module _ {t : paper.Tree} {m : Memory} {root c : ℕ} (g : Ground t m root c) wh
       }
 
   -- 11: more cut nodes are needed than there is room for
-  pub ground_short : {k : ℕ} → k < cut_nodes (den m.nodes root) → k < cutNodesOf t
+  pub ground_short : {k : ℕ} → k < cut_nodes (den m.nodes root) → k < cut_nodes_of t
   ground_short l = short_needs (events t) (den m.nodes root) (root_fun t.gates) fits shows l
 
   -- done
@@ -102,7 +102,7 @@ module _ {t : paper.Tree} {m : Memory} {root c : ℕ} (g : Ground t m root c) wh
 
 module _ {t : paper.Tree} {m : Memory} {root c : ℕ} (g : Ground t m root c) where
   pub cuts_are_full : {k m' : Memory} {a : Analysis} → AllZero k m' → SameLengths m k → length k.cuts / 3 < cut_nodes (den m.nodes root) → Refused (at 11 0) a → CutsFilled t m m' a
-  cuts_are_full z s h r = CutsFilled.cuts_full (subst (λ n. n / 3 < cutNodesOf t) s.cuts (ground_short g h)) r (all_zero_from s z)
+  cuts_are_full z s h r = CutsFilled.cuts_full (subst (λ n. n / 3 < cut_nodes_of t) s.cuts (ground_short g h)) r (all_zero_from s z)
 
   pub cuts_are_done : {C H X M₁ H₁ X₁ K₁ O₁ : List ℕ} {d r : ℕ} {a : Analysis} {M' H' X' K' O' : List ℕ} → Settled M₁ H₁ X₁ K₁ O₁ M' H' X' K' O'
       → SameLengths m (memory m.nodes C m.gates m.added M₁ H₁ X₁ K₁ O₁) → CutTable (den m.nodes root) C H X d r

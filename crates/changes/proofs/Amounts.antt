@@ -23,7 +23,7 @@ use Rattle.sidebyside.proofs.Sets.{of_members}
 use Rattle.sidebyside.proofs.Telling.{tells_once, good_once, good_held}
 use Rattle.sidebyside.proofs.Counting.{gone_kept, kept_flip, none_changed, gone_self}
 use Rattle.sidebyside.proofs.Merging.{gone_cuts, kept_cuts}
-use Rattle.changes.specs.Answers.{Sides, Compares, bad-yesterday, bad-today, counted}
+use Rattle.changes.specs.Answers.{Sides, Compares, bad_yesterday, bad_today, counted}
 use Rattle.changes.specs.declared.Compared.{Compared}
 
 -- the test says whether the set stands there
@@ -93,14 +93,14 @@ made number place side gone new kept = record { number = number; place = place; 
 -- ONE ANSWER
 pub compares_once : {y t : List ℕ} {r s : Compared} → Compares y t r → Compares y t s → r ≡ s
 unfolding made
-compares_once (bad-yesterday a p) (bad-yesterday b q) = p ∙ sym q
-compares_once (bad-yesterday a p) (bad-today g b q) = absurd (a g)
-compares_once (bad-yesterday a p) (counted c q u v) = absurd (a c.good)
-compares_once (bad-today g a p) (bad-yesterday b q) = absurd (b g)
-compares_once (bad-today g a p) (bad-today h b q) = p ∙ sym q
-compares_once (bad-today g a p) (counted c q u v) = absurd (a c.other)
-compares_once (counted c p u v) (bad-yesterday b q) = absurd (b c.good)
-compares_once (counted c p u v) (bad-today h b q) = absurd (b c.other)
+compares_once (bad_yesterday a p) (bad_yesterday b q) = p ∙ sym q
+compares_once (bad_yesterday a p) (bad_today g b q) = absurd (a g)
+compares_once (bad_yesterday a p) (counted c q u v) = absurd (a c.good)
+compares_once (bad_today g a p) (bad_yesterday b q) = absurd (b g)
+compares_once (bad_today g a p) (bad_today h b q) = p ∙ sym q
+compares_once (bad_today g a p) (counted c q u v) = absurd (a c.other)
+compares_once (counted c p u v) (bad_yesterday b q) = absurd (b c.good)
+compares_once (counted c p u v) (bad_today h b q) = absurd (b c.other)
 compares_once {r = r} {s = s} (counted c p u v) (counted d q m n) = let (x, y, z) = counts_once c d in same r s (p ∙ sym q) (u ∙ sym m) (v ∙ sym n) x y z
   where
     same : (r s : Compared) → r.number ≡ s.number → r.place ≡ s.place → r.side ≡ s.side → r.gone ≡ s.gone → r.new ≡ s.new → r.kept ≡ s.kept → r ≡ s
@@ -109,18 +109,18 @@ compares_once {r = r} {s = s} (counted c p u v) (counted d q m n) = let (x, y, z
 -- THE NUMBER is the one that the side says, and in a refusal so is the side of the fault
 pub compared_side : {y t : List ℕ} {r : Compared} (v : Which) → Compares y t r → Sides y t v → (r.number ≡ (side_answer v).number) × (r.place ≡ (side_answer v).place)
     × (r.number ≡ 20 → r.side ≡ (side_answer v).side)
-compared_side Equal (bad-yesterday a p) s = absurd (a s.0)
-compared_side Equal (bad-today g a p) s = absurd (a (subst Good s.1 s.0))
+compared_side Equal (bad_yesterday a p) s = absurd (a s.0)
+compared_side Equal (bad_today g a p) s = absurd (a (subst Good s.1 s.0))
 compared_side Equal (counted c p u q) s = (p, u, λ z. absurd (omega (arith, p, z)))
-compared_side Yesterday (bad-yesterday a p) (b, e, s) = absurd (a s.good)
-compared_side Yesterday (bad-today g a p) (b, e, s) = absurd (a s.other)
+compared_side Yesterday (bad_yesterday a p) (b, e, s) = absurd (a s.good)
+compared_side Yesterday (bad_today g a p) (b, e, s) = absurd (a s.other)
 compared_side Yesterday (counted c p u q) s = (p, u, λ z. absurd (omega (arith, p, z)))
-compared_side Today (bad-yesterday a p) (b, e, s) = absurd (a s.other)
-compared_side Today (bad-today g a p) (b, e, s) = absurd (a s.good)
+compared_side Today (bad_yesterday a p) (b, e, s) = absurd (a s.other)
+compared_side Today (bad_today g a p) (b, e, s) = absurd (a s.good)
 compared_side Today (counted c p u q) s = (p, u, λ z. absurd (omega (arith, p, z)))
-compared_side BadYesterday (bad-yesterday a p) s = (ap (λ (x : Compared). x.number) p, ap (λ (x : Compared). x.place) p, λ _. ap (λ (x : Compared). x.side) p)
-compared_side BadYesterday (bad-today g a p) s = absurd (s g)
+compared_side BadYesterday (bad_yesterday a p) s = (ap (λ (x : Compared). x.number) p, ap (λ (x : Compared). x.place) p, λ _. ap (λ (x : Compared). x.side) p)
+compared_side BadYesterday (bad_today g a p) s = absurd (s g)
 compared_side BadYesterday (counted c p u q) s = absurd (s c.good)
-compared_side BadToday (bad-yesterday a p) s = absurd (a s.0)
-compared_side BadToday (bad-today g a p) s = (ap (λ (x : Compared). x.number) p, ap (λ (x : Compared). x.place) p, λ _. ap (λ (x : Compared). x.side) p)
+compared_side BadToday (bad_yesterday a p) s = absurd (a s.0)
+compared_side BadToday (bad_today g a p) s = (ap (λ (x : Compared). x.number) p, ap (λ (x : Compared). x.place) p, λ _. ap (λ (x : Compared). x.side) p)
 compared_side BadToday (counted c p u q) s = absurd (s.1 c.other)

@@ -38,11 +38,11 @@ pub record Part (y t part : List ℕ) : Type 0 where
   pub is : Parted y t part side
 
 -- a refusal: 20, the side, and no numbers
-abbrev pub refusedOf : Which → Compared
-refusedOf w = record { number = (side_answer w).number; place = (side_answer w).place; side = (side_answer w).side; gone = 0; new = 0; kept = 0 }
+abbrev pub refused_of : Which → Compared
+refused_of w = record { number = (side_answer w).number; place = (side_answer w).place; side = (side_answer w).side; gone = 0; new = 0; kept = 0 }
 
 -- `compare`: a refusal as `side` says, or the numbers
 pub data Compares (y t : List ℕ) (r : Compared) : Type 0 where
-  bad-yesterday : (Good y → ⊥) → r ≡ refusedOf BadYesterday → Compares y t r
-  bad-today : Good y → (Good t → ⊥) → r ≡ refusedOf BadToday → Compares y t r
+  bad_yesterday : (Good y → ⊥) → r ≡ refused_of BadYesterday → Compares y t r
+  bad_today : Good y → (Good t → ⊥) → r ≡ refused_of BadToday → Compares y t r
   counted : Counts y t r.gone r.new r.kept → r.number ≡ 0 → r.place ≡ 0 → r.side ≡ 0 → Compares y t r

@@ -2,7 +2,7 @@
 #![tactic(auto)]
 
 ghost use Rattle.std.specs.Prelude.{◌≡◌};
-ghost use Rattle.changes.specs.Answers.{Sides, Part, Compares, refusedOf};
+ghost use Rattle.changes.specs.Answers.{Sides, Part, Compares, refused_of};
 
 use sidebyside::{Difference, Numbers, Which};
 
@@ -47,7 +47,7 @@ pub struct Compared {
 
 // A refusal, by the side of the fault.
 fn refused(w: Which) -> Compared
-    ensures { result ≡ refusedOf w }
+    ensures { result ≡ refused_of w }
 {
     Compared {
         number: sidebyside::number(w),

@@ -56,7 +56,7 @@ decides_computed bytes n ws = go (judge bytes) refl (some_event (room ws - n) n 
 
     go : (a : Bool) → judge bytes ≡ a → (b : Bool) → some_event (room ws - n) n (set_of ws) ≡ b
         → Meets (cond a (cond b (answer 13 false) (answer 0 (any_in (cuts_of bytes) (set_of ws)))) (answer 20 false))
-    go false p b q = Decides.bad-listing (λ g. true≢false (sym (judge_is bytes g) ∙ p)) (refused_now 20 (refl, refl, refl))
+    go false p b q = Decides.bad_listing (λ g. true≢false (sym (judge_is bytes g) ∙ p)) (refused_now 20 (refl, refl, refl))
     go true p true q = Decides.beyond (judge_so bytes p) (some_beyond (set_of ws) (room ws - n) n q) (refused_now 13 (refl, refl, refl))
     go true p false q = decided_now (record { cuts = cuts_of bytes; held = judge_held bytes p; is = refl }) (none_beyond ws n q) (refl, refl, refl)
 

@@ -25,6 +25,6 @@ pub record Said (l : List Set) (S : Set) (number place : ℕ) (fails : Bool) : T
 
 -- THE CONTRACT of `decides`: 20 if the bytes are no good listing; then 13 if the set has a member at or beyond the events; else 0, by the cuts that the bytes tell
 pub data Decides (bytes : List ℕ) (n : ℕ) (ws : List ℕ) (number place : ℕ) (fails : Bool) : Type 0 where
-  bad-listing : (Good bytes → ⊥) → Refused 20 number place fails → Decides bytes n ws number place fails
+  bad_listing : (Good bytes → ⊥) → Refused 20 number place fails → Decides bytes n ws number place fails
   beyond : Good bytes → Beyond n (set_of ws) → Refused 13 number place fails → Decides bytes n ws number place fails
   decided : (sets : List Set) → Tells bytes sets → (Beyond n (set_of ws) → ⊥) → Said sets (set_of ws) number place fails → Decides bytes n ws number place fails

@@ -13,7 +13,7 @@ use Rattle.paper.specs.Lists.{In}
 use Rattle.paper.specs.Walks.{Steps, Reaches, Ring, visit, postorder, events_of, LeadsBack}
 use Rattle.depthfirst.specs.Inputs.{inputs_of, Arrays}
 use Rattle.depthfirst.specs.Marking.{Rooms, Idle, Clear}
-use Rattle.depthfirst.specs.Answers.{visitAll, Ended, WalksOn, InOrder, Walks, AllInOrder, WalksAll, isBack, Numberable}
+use Rattle.depthfirst.specs.Answers.{visit_all, Ended, WalksOn, InOrder, Walks, AllInOrder, WalksAll, is_back, Numberable}
 use Rattle.depthfirst.specs.declared.Walked.{Walked}
 use Rattle.depthfirst.specs.declared.Walked.TheVariants.{Done, Back}
 use Rattle.depthfirst.proofs.Lists.{in_place, slice_in}
@@ -70,15 +70,15 @@ module _ (S I : List ℕ) (n root : ℕ) (low : root < n) where
 -- the walks from the names 0 to i - 1 are done
 pub record Covers (S I : List ℕ) (n : ℕ) (M Q : List ℕ) (left i : ℕ) : Type 0 where
   pub idle : Idle S I n M Q left
-  pub is : (k : ℕ) → n ≤ k → take left Q ≡ visitAll (inputs_of S I) k i
+  pub is : (k : ℕ) → n ≤ k → take left Q ≡ visit_all (inputs_of S I) k i
 
 pub covers_none : {S I : List ℕ} {n : ℕ} {M Q : List ℕ} → Idle S I n M Q 0 → Covers S I n M Q 0 0
-unfolding visitAll
+unfolding visit_all
 covers_none d = record { idle = d; is = λ k h. refl }
 
 pub covers_next : {S I : List ℕ} {n : ℕ} {M Q M' Q' : List ℕ} {left i r : ℕ} → Covers S I n M Q left i
     → Ended S I n M' Q' r (λ k. visit (inputs_of S I) k (take left Q) i) → Covers S I n M' Q' r (i + 1)
-unfolding visitAll
+unfolding visit_all
 covers_next {S} {I} {n} {i = i} c e = record {
   idle = e.idle;
   is = λ k h. rw add-one (e.is k h ∙ ap (λ l. visit (inputs_of S I) k l i) (c.is k h));
@@ -89,7 +89,7 @@ module _ {S I : List ℕ} {n : ℕ} {M Q : List ℕ} {left i : ℕ} (long : n �
   covered z h =
       let e : suc (n - 1) ≡ n = omega arith in
       let b : z < i = omega arith in
-      subst (λ l. In z l) (ap (λ k. visitAll (inputs_of S I) k i) e ∙ sym (c.is n (omega arith))) (visit_all_has (inputs_of S I) (n - 1) i z b)
+      subst (λ l. In z l) (ap (λ k. visit_all (inputs_of S I) k i) e ∙ sym (c.is n (omega arith))) (visit_all_has (inputs_of S I) (n - 1) i z b)
 
   all_left : left ≡ n
   all_left = sym c.idle.full ∙ all_marked n M long (λ z h. let t = c.idle.marks.done_two z (covered z h) in omega arith)
@@ -97,7 +97,7 @@ module _ {S I : List ℕ} {n : ℕ} {M Q : List ℕ} {left i : ℕ} (long : n �
   pub covers_all : AllInOrder S I n Q left
   covers_all = record {
     count = all_left;
-    is = λ k h. subst (λ j. take j Q ≡ visitAll (inputs_of S I) k n) all_left (c.is k h ∙ ap (visitAll (inputs_of S I) k) end);
+    is = λ k h. subst (λ j. take j Q ≡ visit_all (inputs_of S I) k n) all_left (c.is k h ∙ ap (visit_all (inputs_of S I) k) end);
     ordered = rw all_left at c.idle.ordered;
     every = λ z h. subst (λ k. In z (take k Q)) all_left (covered z h);
     ringless = λ z h. ordered_ringless c.idle.ordered z (covered z h);
@@ -122,7 +122,7 @@ module _ {S I : List ℕ} {n : ℕ} (ar : Arrays S I n) where
   ring_back [] s = absurd s
   ring_back (x ∷ l) s = record { name = x; low = steps_low l x x s; back = record { via = l; steps = s } }
 
-  pub back_exactly : (K Q : List ℕ) (w : Walked) → WalksAll S I n K Q w → (isBack w ≡ true) ↔ LeadsBack (inputs_of S I) n
+  pub back_exactly : (K Q : List ℕ) (w : Walked) → WalksAll S I n K Q w → (is_back w ≡ true) ↔ LeadsBack (inputs_of S I) n
   back_exactly K Q (Done r) h = (λ e. absurd (false≢true e), λ b. absurd (h.ringless b.name b.low b.back))
   back_exactly K Q (Back a e) h = (λ q. ring_back (slice a e K) h.ring, λ b. refl)
 

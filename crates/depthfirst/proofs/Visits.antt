@@ -10,7 +10,7 @@ use native.Mathlib.Decide.{ℕ_discrete}
 use native.Mathlib.Omega.{arith}
 use Rattle.paper.specs.Lists.{In}
 use Rattle.paper.specs.Walks.{Leads, Reaches, has, visit}
-use Rattle.depthfirst.specs.Answers.{visitAll}
+use Rattle.depthfirst.specs.Answers.{visit_all}
 use Rattle.depthfirst.proofs.Lists.{in_left, in_last, in_more, in_has, has_in, not_has}
 
 -- the open names, the last one first, each with its inputs from the one that is being walked on
@@ -92,14 +92,14 @@ module _ (g : ℕ → List ℕ) where
       go true e = has_in x done e
       go false e = in_last x (foldl (visit g k) done (g x))
 
-  pub visit_all_has : (k m z : ℕ) → z < m → In z (visitAll g (suc k) m)
-  unfolding visitAll
+  pub visit_all_has : (k m z : ℕ) → z < m → In z (visit_all g (suc k) m)
+  unfolding visit_all
   visit_all_has k zero z h = let b : ⊥ = omega arith in absurd b
   visit_all_has k (suc m) z h = go (ℕ_discrete z m) (visit_all_has k m z)
     where
-      go : Dec (z ≡ m) → (z < m → In z (visitAll g (suc k) m)) → In z (visit g (suc k) (visitAll g (suc k) m) m)
-      go (yes e) r = subst (λ w. In w (visit g (suc k) (visitAll g (suc k) m) m)) (sym e) (visit_own k (visitAll g (suc k) m) m)
-      go (no q) r = visit_keeps (suc k) (visitAll g (suc k) m) m z (r (omega arith))
+      go : Dec (z ≡ m) → (z < m → In z (visit_all g (suc k) m)) → In z (visit g (suc k) (visit_all g (suc k) m) m)
+      go (yes e) r = subst (λ w. In w (visit g (suc k) (visit_all g (suc k) m) m)) (sym e) (visit_own k (visit_all g (suc k) m) m)
+      go (no q) r = visit_keeps (suc k) (visit_all g (suc k) m) m z (r (omega arith))
 
   -- ---- only names that x leads to are left
 

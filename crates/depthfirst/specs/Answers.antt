@@ -46,14 +46,14 @@ Walks S I n root K Q (Done r) = InOrder S I n root Q r
 Walks S I n root K Q (Back a e) = Shown S I K a e
 
 -- the names in the order in which they are left, where a walk begins at each of the names 0 to m - 1 in turn
-unfoldable pub visitAll : (ℕ → List ℕ) → ℕ → ℕ → List ℕ
-visitAll g k zero = []
-visitAll g k (suc m) = visit g k (visitAll g k m) m
+unfoldable pub visit_all : (ℕ → List ℕ) → ℕ → ℕ → List ℕ
+visit_all g k zero = []
+visit_all g k (suc m) = visit g k (visit_all g k m) m
 
 -- the same of the walks from every name: all names are left, and none leads back to itself
 pub record AllInOrder (S I : List ℕ) (n : ℕ) (Q : List ℕ) (r : ℕ) : Type 0 where
   pub count : r ≡ n
-  pub is : (k : ℕ) → n ≤ k → take n Q ≡ visitAll (inputs_of S I) k n
+  pub is : (k : ℕ) → n ≤ k → take n Q ≡ visit_all (inputs_of S I) k n
   pub ordered : Ordered (inputs_of S I) (take n Q)
   pub every : (z : ℕ) → z < n → In z (take n Q)
   pub ringless : (z : ℕ) → z < n → Reaches (inputs_of S I) z z → ⊥
@@ -82,9 +82,9 @@ pub record Numbers (g : ℕ → List ℕ) (l N : List ℕ) (e h : ℕ) : Type 0 
   pub event_turn : InTurn N (events_of g l)
   pub gate_turn : InTurn N (gates_of g l)
 
-abbrev pub isBack : Walked → Bool
-isBack (Done r) = false
-isBack (Back a e) = true
+abbrev pub is_back : Walked → Bool
+is_back (Done r) = false
+is_back (Back a e) = true
 
 -- THE ROOT: the one name that is an input of none; where there is not exactly one, no name is the root
 abbrev pub RootIs : (S I : List ℕ) (n : ℕ) → Root → Type 0

@@ -22,7 +22,7 @@ use Rattle.scanning.proofs.Sites.{event_site}
 use Rattle.depthfirst.specs.Inputs.{inputs_of}
 use Rattle.depthfirst.specs.Answers.{Shown}
 use Rattle.depthfirst.proofs.Lists.{slice_none, place_in_lem}
-use Rattle.depthfirst.proofs.Answers.{shown-below, ring-said, back-said}
+use Rattle.depthfirst.proofs.Answers.{shown_below, ring_said, back_said}
 use Rattle.equations.specs.Contract.{ShowsRing}
 use Rattle.equations.specs.Knowing.{Blank, Known}
 use Rattle.equations.specs.Showing.{lines_at, RingAt}
@@ -122,10 +122,10 @@ not_none (suc n) e = omega arith
 
 module _ {text : List ℕ} {c : ℕ} {N F G S I : List ℕ} (k : Known text c N F G S I) {K : List ℕ} {a e : ℕ} (s : Shown S I K a e) where
   below : (y : ℕ) → In y (slice a e K) → y < c
-  below = shown-below k.arrays s
+  below = shown_below k.arrays s
 
   ring_there : Ring (inputs_in (lines_of text)) (slice a e K)
-  ring_there = ring-said k.arrays k.same s
+  ring_there = ring_said k.arrays k.same s
 
   pub ring_at : {R : List ℕ} → length K ≤ length R → Blank R → RingAt K a e F R
   ring_at h b = record {
@@ -153,4 +153,4 @@ module _ {text : List ℕ} {c : ℕ} {N F G S I : List ℕ} (k : Known text c N 
   ring_size = map_length (λ n. get_or F n 0 - 1) (slice a e K) ∙ length-slice a e K s.inside
 
   pub ring_says : Says (lines_of text) 17 0
-  ring_says = a_ring k.lines (subst (λ m. LeadsBack (inputs_in (lines_of text)) m) k.count (back-said k.arrays k.same s))
+  ring_says = a_ring k.lines (subst (λ m. LeadsBack (inputs_in (lines_of text)) m) k.count (back_said k.arrays k.same s))

@@ -22,7 +22,7 @@ use Rattle.records.proofs.Lists.{in_first, in_second}
 use Rattle.depthfirst.specs.Inputs.{inputs_of}
 use Rattle.depthfirst.specs.Answers.{Shown, AllInOrder, Numbers, Numberable}
 use Rattle.depthfirst.proofs.Lists.{in_append}
-use Rattle.depthfirst.proofs.Answers.{none-back, no-root-said}
+use Rattle.depthfirst.proofs.Answers.{none_back, no_root_said}
 use Rattle.meaning.proofs.Gates.{gates_in, events_in}
 use Rattle.planting.specs.Orders.{tree_among, Plantable}
 use Rattle.planting.specs.Planting.{Plants}
@@ -60,8 +60,8 @@ module _ {text : List ℕ} {c : ℕ} {N F G S I : List ℕ} (k : Known text c N 
   pub no_root : {Q W : List ℕ} {x : Imported} → AllInOrder S I c Q c → ((root : ℕ) → OneRoot (inputs_of S I) c root → ⊥) → Answers x 18 0 0 (memory start) → Ends text W W x
   no_root o h s =
       refused 18 0
-      (not_one_root k.lines (λ b. none-back k.arrays k.same o (subst (λ m. LeadsBack (inputs_in (lines_of text)) m) (sym k.count) b))
-      (λ root b. no-root-said k.arrays k.same h root (subst (λ m. OneRoot (inputs_in (lines_of text)) m root) (sym k.count) b)))
+      (not_one_root k.lines (λ b. none_back k.arrays k.same o (subst (λ m. LeadsBack (inputs_in (lines_of text)) m) (sym k.count) b))
+      (λ root b. no_root_said k.arrays k.same h root (subst (λ m. OneRoot (inputs_in (lines_of text)) m root) (sym k.count) b)))
       (omega arith) (λ q. omega arith) s refl
 
   -- ---- the tree

@@ -22,7 +22,7 @@ use Rattle.lines.specs.Reading.{Capped}
 use Rattle.depthfirst.specs.Inputs.{inputs_of}
 use Rattle.depthfirst.specs.Answers.{InOrder, Numbers, Numberable}
 use Rattle.depthfirst.proofs.All.{input_low}
-use Rattle.depthfirst.proofs.Answers.{none-back, root_said, events-said, gates-said, event-number, gate-number}
+use Rattle.depthfirst.proofs.Answers.{none_back, root_said, events_said, gates_said, event_number, gate_number}
 use Rattle.meaning.proofs.Gates.{gates_in, events_in}
 use Rattle.planting.specs.Orders.{input_at, gate_at, chances_among, gates_among, tree_among, Plantable}
 use Rattle.equations.specs.Knowing.{Known, Climbed}
@@ -43,17 +43,17 @@ module _ {text : List ℕ} {c : ℕ} {N F G S I : List ℕ} (k : Known text c N 
   pub climbed_rooted : Rooted ls root
   climbed_rooted = record {
     lines = k.lines;
-    ringless = λ b. none-back k.arrays k.same w.all (subst (λ m. LeadsBack (inputs_in ls) m) (sym k.count) b);
+    ringless = λ b. none_back k.arrays k.same w.all (subst (λ m. LeadsBack (inputs_in ls) m) (sym k.count) b);
     one = subst (λ m. OneRoot (inputs_in ls) m root) k.count (root_said k.arrays k.same w.one);
   }
 
   pub events_are : events_of (inputs_of S I) order ≡ event_names ls root
   unfolding event_names
-  events_are = events-said k.arrays k.same w.all w.one w.way ∙ ap (λ m. events_of (inputs_in ls) (preorder (inputs_in ls) m root)) k.count
+  events_are = events_said k.arrays k.same w.all w.one w.way ∙ ap (λ m. events_of (inputs_in ls) (preorder (inputs_in ls) m root)) k.count
 
   pub gates_are : gates_of (inputs_of S I) order ≡ gate_names ls root
   unfolding gate_names
-  gates_are = gates-said k.arrays k.same w.all w.one w.way ∙ ap (λ m. gates_of (inputs_in ls) (postorder (inputs_in ls) m root)) k.count
+  gates_are = gates_said k.arrays k.same w.all w.one w.way ∙ ap (λ m. gates_of (inputs_in ls) (postorder (inputs_in ls) m root)) k.count
 
   event_low : (x : ℕ) → In x (events_of (inputs_of S I) order) → x < c
   event_low x h = w.way.low x (events_in (inputs_of S I) x order h).0
@@ -69,10 +69,10 @@ module _ {text : List ℕ} {c : ℕ} {N F G S I : List ℕ} (k : Known text c N 
     input_is y l =
         either (is_event (inputs_in ls y))
         (λ b. ap (λ t. cond t (event (get_or U y 0)) (gate (get_or U y 0))) (ap is_event (k.same y l) ∙ b)
-        ∙ ap event (event-number k.arrays k.same w.all w.one w.way n y l b ∙ ap (λ m. place_in y (events_of (inputs_in ls) (preorder (inputs_in ls) m root))) k.count)
+        ∙ ap event (event_number k.arrays k.same w.all w.one w.way n y l b ∙ ap (λ m. place_in y (events_of (inputs_in ls) (preorder (inputs_in ls) m root))) k.count)
         ∙ sym (ap (λ t. cond t (event (place_in y (event_names ls root))) (gate (place_in y (gate_names ls root)))) b))
         (λ b. ap (λ t. cond t (event (get_or U y 0)) (gate (get_or U y 0))) (ap is_event (k.same y l) ∙ b)
-        ∙ ap gate (gate-number k.arrays k.same w.all w.one w.way n y l b ∙ ap (λ m. place_in y (gates_of (inputs_in ls) (postorder (inputs_in ls) m root))) k.count)
+        ∙ ap gate (gate_number k.arrays k.same w.all w.one w.way n y l b ∙ ap (λ m. place_in y (gates_of (inputs_in ls) (postorder (inputs_in ls) m root))) k.count)
         ∙ sym (ap (λ t. cond t (event (place_in y (event_names ls root))) (gate (place_in y (gate_names ls root)))) b))
 
     inputs_are : (x : ℕ) → x < c → map (input_at S I U) (inputs_of S I x) ≡ map (input_for ls root) (inputs_in ls x)

@@ -24,17 +24,17 @@ use Rattle.exported.specs.Numbers.{of_reading, of_writing, of_report, of_decided
 -- ---- the arrays of a tree
 
 module _ (n : ℕ) (t : Tree) where
-  pub put-there : n ≡ 0 → {C : List ℕ} → C ≡ chances_of t.events → {S : List ℕ} → S ≡ sites_of t.events → (A : Arrays) → arrays C S t.kinds t.leasts t.sizes t.inputs ≡ filled n t A
-  put-there z k s A =
+  pub put_there : n ≡ 0 → {C : List ℕ} → C ≡ chances_of t.events → {S : List ℕ} → S ≡ sites_of t.events → (A : Arrays) → arrays C S t.kinds t.leasts t.sizes t.inputs ≡ filled n t A
+  put_there z k s A =
       ap₂ (λ c d. arrays c d t.kinds t.leasts t.sizes t.inputs) k s
       ∙ sym (ap (λ b. cond b (arrays_of t) A) (eq-eqb n 0 z))
 
   pub kept_there : (n ≡ 0 → ⊥) → (A : Arrays) → A ≡ filled n t A
   kept_there h A = sym (ap (λ b. cond b (arrays_of t) A) (ne_eqb n 0 h))
 
-pub taken-from : (events gates : ℕ) (sited : Bool) (C S K L N I : List ℕ) {E : List Event} → E ≡ events_of C S
+pub taken_from : (events gates : ℕ) (sited : Bool) (C S K L N I : List ℕ) {E : List Event} → E ≡ events_of C S
     → record { events = E; event_count = events; sited = sited; kinds = K; leasts = L; sizes = N; gate_count = gates; inputs = I } ≡ tree_from events gates sited (arrays C S K L N I)
-taken-from events gates sited C S K L N I e = ap (λ E. record { events = E; event_count = events; sited = sited; kinds = K; leasts = L; sizes = N; gate_count = gates; inputs = I }) e
+taken_from events gates sited C S K L N I e = ap (λ E. record { events = E; event_count = events; sited = sited; kinds = K; leasts = L; sizes = N; gate_count = gates; inputs = I }) e
 
 -- ---- numbers
 
@@ -44,9 +44,9 @@ flag true = refl
 flag false = refl
 
 module _ (bytes : List ℕ) {r : Reading} (e : r ≡ in_memory (outcome limits bytes)) {n : ℕ} (q : n ≡ (verdict r.answer).number) where
-  pub read-numbers : {p : ℕ} → p ≡ (verdict r.answer).place
+  pub read_numbers : {p : ℕ} → p ≡ (verdict r.answer).place
       → n ∷ p ∷ r.tree.event_count ∷ r.tree.gate_count ∷ bool_byte r.tree.sited ∷ [] ≡ of_reading (in_memory (outcome limits bytes))
-  read-numbers s = rw (q, s, flag r.tree.sited) (ap of_reading e)
+  read_numbers s = rw (q, s, flag r.tree.sited) (ap of_reading e)
 
   pub read_arrays : (A : Arrays) {A' : Arrays} → A' ≡ filled n r.tree A → A' ≡ after (in_memory (outcome limits bytes)) A
   read_arrays A f = f ∙ ap (λ m. filled m r.tree A) q ∙ ap (λ x. after x A) e

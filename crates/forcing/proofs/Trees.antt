@@ -8,7 +8,7 @@ use Rattle.paper.specs.Trees.{Input, event, gate, forced, Gate, and_g, or_g, lea
 use Rattle.paper.specs.Steps.{step_funs}
 use Rattle.paper.specs.Nodes.{nodes_needed, nodes_to_gate, nodes_of}
 use Rattle.paper.specs.Cuts.{cut_nodes_needed}
-use Rattle.paper.specs.Answers.{cutNodesOf}
+use Rattle.paper.specs.Answers.{cut_nodes_of}
 use Rattle.paper.specs.Store.{State, free, failed, sound, Settings}
 use Rattle.paper.specs.Forcing.{force_f, event_as, force_input, force_gate, chances_from, force_tree}
 use Rattle.settings.specs.States.{all_free}
@@ -67,7 +67,7 @@ module _ (s : Settings) (t : Tree) (low : TreeLower 0 t.gates) where
   pub forced_nodes_to : (g : ℕ) → nodes_to_gate (force_tree s t) g ≡ nodes_needed (events t) (map (force_f s) (step_funs (take g t.gates)))
   forced_nodes_to g = ap₂ nodes_needed (events_same s t) (ap step_funs (take_map s g t.gates) ∙ forced_steps s (take g t.gates) (lower_take 0 g t.gates low))
 
-  pub forced_cut_nodes : cutNodesOf (force_tree s t) ≡ cut_nodes_needed (events t) (force_f s (root_fun t.gates))
+  pub forced_cut_nodes : cut_nodes_of (force_tree s t) ≡ cut_nodes_needed (events t) (force_f s (root_fun t.gates))
   forced_cut_nodes = ap₂ cut_nodes_needed (events_same s t) (forced_root s t.gates low)
 
 -- ---- all events free

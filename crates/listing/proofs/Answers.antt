@@ -31,15 +31,15 @@ use Rattle.listing.specs.Calls.{Refusal, Listing}
 
 -- ---- what fits
 
-pub fitting-all : (n size : ℕ) (w q : List Set) → length (sets_bytes n w) ≤ size
+pub fitting_all : (n size : ℕ) (w q : List Set) → length (sets_bytes n w) ≤ size
     → ((T : Set) (r : List Set) → q ≡ T ∷ r → size < length (sets_bytes n w) + length (set_bytes n T)) → fitting n size (w ++ q) ≡ w
 unfolding fitting
-fitting-all n size [] [] h f = refl
-fitting-all n size [] (T ∷ q) h f = let g = f T q refl in rw (lt-leb (length (set_bytes n T)) size (omega arith))
-fitting-all n size (S ∷ w) q h f =
+fitting_all n size [] [] h f = refl
+fitting_all n size [] (T ∷ q) h f = let g = f T q refl in rw (lt-leb (length (set_bytes n T)) size (omega arith))
+fitting_all n size (S ∷ w) q h f =
     let a = length-append (set_bytes n S) (sets_bytes n w) in
     rw (le-leb (length (set_bytes n S)) size (omega arith))
-    (ap (λ (x : List Set). S ∷ x) (fitting-all n (size - length (set_bytes n S)) w q (omega arith) (λ T r e. let g = f T r e in omega arith)))
+    (ap (λ (x : List Set). S ∷ x) (fitting_all n (size - length (set_bytes n S)) w q (omega arith) (λ T r e. let g = f T r e in omega arith)))
 
 -- the first of the sets that fit is the first of all
 pub not_short : (n size : ℕ) (l w q : List Set) → l ≡ w ++ q → length (sets_bytes n w) ≤ size → (w ≡ [] → q ≡ []) → Short n size l → ⊥
@@ -117,7 +117,7 @@ module _ {n : ℕ} {T : List ℕ} {c root : ℕ} (lent : Lent true n T c root) (
       → Listing n (to_list n (den T root) begin ws) S rm rm' number place count used last finished → Answered n T c root begin ws rm rm' number place count used last finished
   done_of s (Listing.short h r) = Answered.short lent ok h r
   done_of {S} {rm} {used = used} {last} {finished} s (Listing.wrote w) =
-      let fit : w.written ≡ fitting n (length rm) (to_list n (den T root) begin ws) = sym (ap (fitting n (length rm)) w.whole ∙ fitting-all n (length rm) w.written w.left w.within w.full) in
+      let fit : w.written ≡ fitting n (length rm) (to_list n (den T root) begin ws) = sym (ap (fitting n (length rm)) w.whole ∙ fitting_all n (length rm) w.written w.left w.within w.full) in
       let l : Left n (den T root) (last_or (start_of begin ws) w.written) w.left = left_of n (den T root) (root_ordered lent) begin ws ok w.written w.left w.whole w.some in
       let last_is : set_of last ≡ last_or (start_of begin ws) w.written = w.last-set ∙ ap (λ (U : Set). last_or U w.written) s in
       Answered.done lent ok (not_short n (length rm) (to_list n (den T root) begin ws) w.written w.left w.whole w.within w.some) (record {
@@ -135,25 +135,25 @@ refuse : {m : ℕ} (rm : List ℕ) {number place count used : ℕ} {last : List 
 refuse rm r = record { is = r.is; no_place = r.no_place; no_cut = r.no_cut; no_byte = r.no_byte; empty_set = r.empty_set; unfinished = r.unfinished; kept = refl }
 
 module _ {n : ℕ} {T : List ℕ} {c root : ℕ} (begin : Bool) (ws rm : List ℕ) {number place count used : ℕ} {last : List ℕ} {finished : Bool} where
-  pub answer-12 : (Lent true n T c root → ⊥) → Refusal 12 number place count used last finished → Answered n T c root begin ws rm rm number place count used last finished
-  answer-12 h r = Answered.no_diagram h (refuse rm r)
+  pub answer_12 : (Lent true n T c root → ⊥) → Refusal 12 number place count used last finished → Answered n T c root begin ws rm rm number place count used last finished
+  answer_12 h r = Answered.no_diagram h (refuse rm r)
 
   module _ (lent : Lent true n T c root) where
     -- the lowest event of the set from n on is one
-    pub answer-13 : {x : ℕ} → begin ≡ false → length ws ≡ words → Lowest (set_of ws) (room ws) n x → x < words * 64
+    pub answer_13 : {x : ℕ} → begin ≡ false → length ws ≡ words → Lowest (set_of ws) (room ws) n x → x < words * 64
         → Refusal 13 number place count used last finished → Answered n T c root begin ws rm rm number place count used last finished
-    answer-13 {x} e four lo h r = Answered.beyond lent e (record { event = x; above = lo.above (omega arith); is = lo.is (omega arith) }) (refuse rm r)
+    answer_13 {x} e four lo h r = Answered.beyond lent e (record { event = x; above = lo.above (omega arith); is = lo.is (omega arith) }) (refuse rm r)
 
-    pub answer-all : {base rm' : List ℕ} → begin ≡ true → base ≡ replicate words 0 → Listing n (sets_of (den T root)) (set_of base) rm rm' number place count used last finished
+    pub answer_all : {base rm' : List ℕ} → begin ≡ true → base ≡ replicate words 0 → Listing n (sets_of (den T root)) (set_of base) rm rm' number place count used last finished
         → Answered n T c root begin ws rm rm' number place count used last finished
-    answer-all {rm' = rm'} e q l =
+    answer_all {rm' = rm'} e q l =
         subst (λ (b : Bool). Answered n T c root b ws rm rm' number place count used last finished) (sym e)
         (done_of lent true ws (λ z. absurd (true≢false z)) (ap set_of q ∙ empty_none words) l)
 
     -- there is none, so the set is within the events
-    pub answer-after : {x : ℕ} {rm' : List ℕ} → begin ≡ false → length ws ≡ words → Lowest (set_of ws) (room ws) n x → words * 64 ≤ x
+    pub answer_after : {x : ℕ} {rm' : List ℕ} → begin ≡ false → length ws ≡ words → Lowest (set_of ws) (room ws) n x → words * 64 ≤ x
         → Listing n (rest n (set_of ws) (sets_of (den T root))) (set_of ws) rm rm' number place count used last finished → Answered n T c root begin ws rm rm' number place count used last finished
-    answer-after {x} {rm'} e four lo h l =
+    answer_after {x} {rm'} e four lo h l =
         subst (λ (b : Bool). Answered n T c root b ws rm rm' number place count used last finished) (sym e)
         (done_of lent false ws (λ _. outside) refl l)
       where

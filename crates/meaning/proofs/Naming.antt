@@ -16,7 +16,7 @@ use Rattle.paper.specs.Importing.{Rooted}
 use Rattle.meaning.specs.Said.{AllFilled}
 use Rattle.meaning.proofs.Defining.{inputs_low, root_gate}
 use Rattle.depthfirst.proofs.Counting.{ordered_once}
-use Rattle.depthfirst.proofs.Answers.{LastIs, root-last-gate, in_events, in_gates}
+use Rattle.depthfirst.proofs.Answers.{LastIs, root_last_gate, in_events, in_gates}
 use Rattle.meaning.proofs.Few.{once_few}
 use Rattle.meaning.proofs.Walks.{order_ordered, order_every, order_low, order_events}
 use Rattle.meaning.proofs.Gates.{events_in, gates_in, once_events, once_gates, Behind, gates_behind}
@@ -67,7 +67,7 @@ module _ {ls : List Placed} {root : ℕ} (r : Rooted ls root) where
 
   pub root_last : AllFilled ls → LastIs root (gate_names ls root)
   unfolding gate_names
-  root_last f = root-last-gate (inputs_in ls) r.one.low (root_gate ls root f r.lines.once r.one)
+  root_last f = root_last_gate (inputs_in ls) r.one.low (root_gate ls root f r.lines.once r.one)
 
   -- ---- events
 

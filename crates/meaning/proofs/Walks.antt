@@ -9,7 +9,7 @@ use native.Mathlib.Omega.{arith}
 use lib.ListN.{length}
 use Rattle.paper.specs.Lists.{In, Once}
 use Rattle.paper.specs.Walks.{Reaches, OneRoot, has, visit, postorder, preorder, events_of, Ordered}
-use Rattle.depthfirst.specs.Answers.{visitAll}
+use Rattle.depthfirst.specs.Answers.{visit_all}
 use Rattle.depthfirst.proofs.Lists.{has_in, in_has, in_last}
 use Rattle.depthfirst.proofs.Order.{ordered_none, ordered_more, ordered_reaches}
 use Rattle.depthfirst.proofs.Visits.{visit_keeps, visit_all_has, reaches_on, visit_only}
@@ -105,13 +105,13 @@ module _ {g : ℕ → List ℕ} {n : ℕ} (low : (x y : ℕ) → In y (g x) → 
   way_first = record { once = tt; names = λ z h. absurd h; deep = omega arith }
 
   -- the walks from every name
-  all_ordered : (m : ℕ) → m ≤ n → Ordered g (visitAll g n m)
-  unfolding visitAll
+  all_ordered : (m : ℕ) → m ≤ n → Ordered g (visit_all g n m)
+  unfolding visit_all
   all_ordered zero h = ordered_none g
-  all_ordered (suc m) h = (visit_orders n [] (visitAll g n m) m (opens_first m (omega arith)) way_first (all_ordered m (omega arith))).0
+  all_ordered (suc m) h = (visit_orders n [] (visit_all g n m) m (opens_first m (omega arith)) way_first (all_ordered m (omega arith))).0
 
-  all_left : (z : ℕ) → z < n → In z (visitAll g n n)
-  all_left z h = let e : suc (n - 1) ≡ n = omega arith in subst (λ k. In z (visitAll g k n)) e (visit_all_has g (n - 1) n z h)
+  all_left : (z : ℕ) → z < n → In z (visit_all g n n)
+  all_left z h = let e : suc (n - 1) ≡ n = omega arith in subst (λ k. In z (visit_all g k n)) e (visit_all_has g (n - 1) n z h)
 
   module _ {root : ℕ} (one : OneRoot g n root) where
     root_orders : Ordered g (postorder g n root) × In root (postorder g n root)

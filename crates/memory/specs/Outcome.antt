@@ -8,7 +8,7 @@ use Rattle.paper.specs.Steps.{step_funs}
 use Rattle.paper.specs.Nodes.{needed, nodes_of, nodes_added}
 use Rattle.paper.specs.Diagrams.{eval}
 use Rattle.paper.specs.Cuts.{sets_of, cut_list, cuts_needed}
-use Rattle.paper.specs.Answers.{Verdict, cutNodesOf}
+use Rattle.paper.specs.Answers.{Verdict, cut_nodes_of}
 use Rattle.algebra.specs.Families.{holds}
 use Rattle.tables.specs.Table.{den}
 use Rattle.tables.specs.Stored.{Unique, ZeroBehind}
@@ -59,7 +59,7 @@ pub record Done (t : Tree) (m m' : Memory) (a : Analysis) : Type 0 where
   pub number : a.number ≡ 0
   pub place : a.place ≡ 0
   pub node_count : a.nodes ≡ nodes_of t
-  pub cut_count : a.cut_nodes ≡ cutNodesOf t
+  pub cut_count : a.cut_nodes ≡ cut_nodes_of t
   pub node_table : Table false (events t) m'.nodes a.nodes a.root
   pub cut_table : Table true (events t) m'.cuts a.cut_nodes a.cut_root
   pub nodes_needed : Holds (function_of (events t) m'.nodes) a.nodes (needed (events t) (step_funs t.gates))

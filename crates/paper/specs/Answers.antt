@@ -31,12 +31,12 @@ pub record FilledAt (t : Tree) (capacity g : ℕ) : Type 0 where
   pub least : (h : ℕ) → capacity < nodes_to_gate t (h + 1) → g ≤ h
 
 -- cut nodes needed by the root of a tree
-abbrev pub cutNodesOf : Tree → ℕ
-cutNodesOf t = cut_nodes_needed (events t) (root_fun t.gates)
+abbrev pub cut_nodes_of : Tree → ℕ
+cut_nodes_of t = cut_nodes_needed (events t) (root_fun t.gates)
 
 -- 11: cut nodes needed exceeds the capacity
 abbrev pub CutsFull : Tree → ℕ → Type 0
-CutsFull t capacity = capacity < cutNodesOf t
+CutsFull t capacity = capacity < cut_nodes_of t
 
 -- 13: a set names an event beyond the number of events
 pub record Beyond (n : ℕ) (S : Set) : Type 0 where

@@ -15,7 +15,7 @@ use Rattle.paper.specs.Cuts.{sets_of, cut_list, cut_nodes_needed}
 use Rattle.paper.specs.Order.{from_start}
 use Rattle.paper.specs.Listing.{member, member_bytes, cut_bytes, sets_bytes, fitting, Listed, listed}
 use Rattle.paper.specs.Chance.{total, low, high, standing}
-use Rattle.paper.specs.Answers.{FilledAt, cutNodesOf}
+use Rattle.paper.specs.Answers.{FilledAt, cut_nodes_of}
 
 -- what can be asked of a tree
 data Question : Type 0 where
@@ -69,10 +69,10 @@ cuts_of t = cut_list (events t) (root_fun t.gates)
 
 define : Tree → Question → Answer
 define t nodes = number (nodes_of t)
-define t cut_nodes = number (cutNodesOf t)
+define t cut_nodes = number (cut_nodes_of t)
 define t added = numbers (map (nodes_added t) (up_to (length t.gates) 0))
 define t (node_table c) = full 10 c (nodes_of t)
-define t (cut_table c) = full 11 c (cutNodesOf t)
+define t (cut_table c) = full 11 c (cut_nodes_of t)
 define t cuts = sets (map (members (events t)) (cuts_of t))
 define t (list room) = listing_of (events t) (listed (events t) room (from_start true (events t) none (cuts_of t)))
 define t (list_after s room) = listing_of (events t) (listed (events t) room (from_start false (events t) (of_events s) (cuts_of t)))

@@ -11,7 +11,7 @@ use Rattle.paper.specs.Nodes.{nodes_needed, nodes_of}
 use Rattle.paper.specs.Diagrams.{Diagram, diagram_of}
 use Rattle.paper.specs.Cuts.{cut_list, cut_nodes_needed}
 use Rattle.paper.specs.Chance.{total, low, high}
-use Rattle.paper.specs.Answers.{cutNodesOf}
+use Rattle.paper.specs.Answers.{cut_nodes_of}
 use Rattle.paper.specs.Store.{entries, torn, judge_from, judge_store, settings_of}
 use Rattle.paper.specs.Forcing.{force_tree}
 
@@ -34,7 +34,7 @@ of t =
     let F : Fun = root_fun t.gates in
     let a : ℕ → ℕ = λ i. get_or t.chances i 0 in
     let d : Diagram = diagram_of n 0 F in
-    done (nodes_of t) (cutNodesOf t) (map (members n) (cut_list n F)) (depends_on n F) (low billion a d) (high billion a d) (total billion a n 0 F)
+    done (nodes_of t) (cut_nodes_of t) (map (members n) (cut_list n F)) (depends_on n F) (low billion a d) (high billion a d) (total billion a n 0 F)
 
 define : Tree → ℕ → List ℕ → Answer
 define t asked store = elim (judge_store (events t) store).number [ zero ↦ of (force_tree (settings_of asked store) t) | suc k ↦ refused (suc k) (judge_store (events t) store).place ]

@@ -30,7 +30,7 @@ use Rattle.walk.specs.After.{to_list}
 use Rattle.listing.specs.Answers.{GoodStart}
 use Rattle.bracket.specs.Bracketed.{chance_in, Chances}
 use Rattle.review.specs.Hopes.{worth}
-use Rattle.report.specs.Answers.{toReport, Enough, Answered}
+use Rattle.report.specs.Answers.{to_report, Enough, Answered}
 use Rattle.report.specs.Joined.{Joined}
 use Rattle.report.proofs.Join.{goes_on, join_all}
 use Rattle.memory.specs.Memory.{Memory}
@@ -90,7 +90,7 @@ module _ {t : Tree} {m m' : Memory} {a : Analysis} (d : Done t m m' a) where
     report_answers (Answered.too_short k v h x z) y e c g l = absurd (h e)
     report_answers (Answered.no_chance k v n h x z) y e c g l = absurd (h c)
     report_answers (Answered.beyond k v n p b i x z) y e c g l = absurd (g b i)
-    report_answers (Answered.short k v n p ok s x z) y e c g l = absurd (never_short (events t) (length room) (toReport r A (events t) (den m'.cuts a.cut_root) begin ws) l s)
+    report_answers (Answered.short k v n p ok s x z) y e c g l = absurd (never_short (events t) (length room) (to_report r A (events t) (den m'.cuts a.cut_root) begin ws) l s)
     report_answers (Answered.done k v n p ok s x z) y e c g l = x.is
 
   -- the edition is named, and the last set is a start that the next call takes
@@ -104,7 +104,7 @@ module _ {t : Tree} {m m' : Memory} {a : Analysis} (d : Done t m m' a) where
     report_hands_on (Answered.short k v e p ok s x z) = absurd (let e = x.is in omega arith)
     report_hands_on (Answered.done k v e p ok s x z) = (
       x.names,
-      last_good (events t) begin ws last (length room) (toReport r A (events t) (den m'.cuts a.cut_root) begin ws)
+      last_good (events t) begin ws last (length room) (to_report r A (events t) (den m'.cuts a.cut_root) begin ws)
           (λ S h. sets_beyond 0 (events t) (den m'.cuts a.cut_root) S (root_ordered v) (of_family (events t) (den m'.cuts a.cut_root) begin ws S (keep_in (worth r A (events t)) S (to_list (events t) (den m'.cuts a.cut_root) begin ws) h).0))
           ok x.last_set,
     )

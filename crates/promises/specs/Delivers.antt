@@ -13,7 +13,7 @@ use Rattle.paper.specs.Cuts.{MinimalCut, sets_of, cuts_needed}
 use Rattle.paper.specs.Order.{Sorted}
 use Rattle.paper.specs.Listing.{sets_bytes, longest_cut}
 use Rattle.paper.specs.Chance.{total, Brackets}
-use Rattle.paper.specs.Answers.{cutNodesOf}
+use Rattle.paper.specs.Answers.{cut_nodes_of}
 use Rattle.tables.specs.Table.{den}
 use Rattle.listing.specs.Answers.{GoodStart, Answered}
 use Rattle.listing.specs.Joined.{Joined}
@@ -33,7 +33,7 @@ cuts_in m a = sets_of (den m.cuts a.cut_root)
 -- 1. EXACT: as many nodes as needed, and of each gate as many as it adds; every needed function and family has a node, there is no other node, and no two numbers say the same
 pub record Exact (t : Tree) (m : Memory) (a : Analysis) : Type 0 where
   pub nodes : a.nodes ≡ nodes_of t
-  pub cut_nodes : a.cut_nodes ≡ cutNodesOf t
+  pub cut_nodes : a.cut_nodes ≡ cut_nodes_of t
   pub added : (g : ℕ) → g < length t.gates → get_or m.added g 0 ≡ nodes_added t g
   pub adds_up : sum m.added ≡ a.nodes
   pub functions : Holds (function_of (events t) m.nodes) a.nodes (needed (events t) (step_funs t.gates))

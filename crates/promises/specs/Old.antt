@@ -10,7 +10,7 @@ use Rattle.paper.specs.Cuts.{cut_list}
 use Rattle.paper.specs.Listing.{set_bytes, old_set_bytes, old_sets_bytes}
 use Rattle.paper.specs.Chance.{low, high}
 use Rattle.paper.specs.Sizes.{cuts_of_size}
-use Rattle.paper.specs.Answers.{cutNodesOf}
+use Rattle.paper.specs.Answers.{cut_nodes_of}
 use Rattle.records.specs.Judge.{Book, accept, outcome}
 use Rattle.records.specs.Memory.{memory}
 use Rattle.records.specs.Trees.{tree_of}
@@ -27,7 +27,7 @@ use Rattle.analyser.specs.Analysed.{Analysed}
 pub record SameAnswers (t : Tree) (m : Memory) (a : Analysis) : Type 0 where
   -- the counts of nodes
   pub nodes : a.nodes ≡ nodes_of t
-  pub cut_nodes : a.cut_nodes ≡ cutNodesOf t
+  pub cut_nodes : a.cut_nodes ≡ cut_nodes_of t
   pub added : (g : ℕ) → g < length t.gates → get_or m.added g 0 ≡ nodes_added t g
   -- the listing, in rooms of any sizes: the old bytes of the minimal cuts; and any set has its old bytes, so a room gets what it got
   pub listing : {ws bytes : List ℕ} → Joined (events t) m.cuts a.cut_nodes a.cut_root true ws bytes

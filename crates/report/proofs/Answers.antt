@@ -25,52 +25,52 @@ use Rattle.tables.specs.Lent.{Lent}
 use Rattle.bracket.specs.Bracketed.{Chances}
 use Rattle.listing.specs.Answers.{start_of, GoodStart}
 use Rattle.listing.specs.Calls.{Refusal, Listing}
-use Rattle.listing.proofs.Answers.{fitting-all, not_short}
+use Rattle.listing.proofs.Answers.{fitting_all, not_short}
 use Rattle.walk.specs.After.{to_list}
 use Rattle.review.specs.Hopes.{worth}
 use Rattle.listing.specs.declared.Listed.{Listed}
-use Rattle.report.specs.Answers.{toReport, NoneAfter, Enough, Refused, Untouched, Cleared, Answered}
+use Rattle.report.specs.Answers.{to_report, NoneAfter, Enough, Refused, Untouched, Cleared, Answered}
 use Rattle.report.specs.Inner.{Begun, Fine, Judged, Names}
 use Rattle.report.specs.declared.Reported.{Reported}
 use Rattle.report.proofs.Family.{all_sorted, all_within, started}
 use Rattle.report.proofs.Left.{Left, left_of, some_left, none_left}
 
-pub edition-one : (e : ℕ) → e ≡ 1 → true ≡ is_edition e
-edition-one e q = sym (ap (λ b. b || eqb e 2) (eq-eqb e 1 q))
+pub edition_one : (e : ℕ) → e ≡ 1 → true ≡ is_edition e
+edition_one e q = sym (ap (λ b. b || eqb e 2) (eq-eqb e 1 q))
 
-pub edition-other : (e : ℕ) → (e ≡ 1 → ⊥) → eqb e 2 ≡ is_edition e
-edition-other e q = sym (ap (λ b. b || eqb e 2) (ne_eqb e 1 q))
+pub edition_other : (e : ℕ) → (e ≡ 1 → ⊥) → eqb e 2 ≡ is_edition e
+edition_other e q = sym (ap (λ b. b || eqb e 2) (ne_eqb e 1 q))
 
 -- ---- where a call starts
 
 module _ {begin : Bool} {ws base : List ℕ} (g : Begun begin ws base) where
-  begun-set : set_of base ≡ start_of begin ws
-  begun-set = go begin refl
+  begun_set : set_of base ≡ start_of begin ws
+  begun_set = go begin refl
     where
       go : (b : Bool) → begin ≡ b → set_of base ≡ start_of b ws
       go true e = ap set_of (g.all e) ∙ empty_none words
       go false e = ap set_of (g.after e)
 
-  pub begun-long : length ws ≡ words → length base ≡ words
-  begun-long q = go begin refl
+  pub begun_long : length ws ≡ words → length base ≡ words
+  begun_long q = go begin refl
     where
       go : (b : Bool) → begin ≡ b → length base ≡ words
       go true e = ap length (g.all e)
       go false e = ap length (g.after e) ∙ q
 
-  begun-list : (n : ℕ) (d : Diagram) → to_list n d begin base ≡ to_list n d begin ws
-  begun-list n d = go begin refl
+  begun_list : (n : ℕ) (d : Diagram) → to_list n d begin base ≡ to_list n d begin ws
+  begun_list n d = go begin refl
     where
       go : (b : Bool) → begin ≡ b → to_list n d b base ≡ to_list n d b ws
       go true e = refl
       go false e = ap (to_list n d false) (g.after e)
 
-  begun-good : {n : ℕ} → (Beyond n (set_of base) → ⊥) → GoodStart n begin ws
-  begun-good {n} h e b = h (subst (λ (x : List ℕ). Beyond n (set_of x)) (sym (g.after e)) b)
+  begun_good : {n : ℕ} → (Beyond n (set_of base) → ⊥) → GoodStart n begin ws
+  begun_good {n} h e b = h (subst (λ (x : List ℕ). Beyond n (set_of x)) (sym (g.after e)) b)
 
   -- 13 is due after a set only
-  begun-after : {n : ℕ} → Beyond n (set_of base) → (begin ≡ false) × Beyond n (set_of ws)
-  begun-after {n} x = go begin refl
+  begun_after : {n : ℕ} → Beyond n (set_of base) → (begin ≡ false) × Beyond n (set_of ws)
+  begun_after {n} x = go begin refl
     where
       go : (b : Bool) → begin ≡ b → (begin ≡ false) × Beyond n (set_of ws)
       go true e = absurd (false≢true (sym (ap (λ (S : Set). S x.event) (ap set_of (g.all e) ∙ empty_none words)) ∙ x.is))
@@ -90,9 +90,9 @@ none_beyond base four lo h b = go (dec_lt b.event (room base))
 -- ---- refused
 
 module _ {r n : ℕ} {T : List ℕ} {c root : ℕ} {A : List ℕ} {begin : Bool} {ws base : List ℕ} (g : Begun begin ws base) (rm F W : List ℕ) {why edition number place count used : ℕ} {last : List ℕ} {finished : Bool} where
-  pub answer-refused : Judged r n T c root A F W base why → (why ≡ 0 → ⊥) → (edition ≡ 0) × Refusal why number place count used last finished
+  pub answer_refused : Judged r n T c root A F W base why → (why ≡ 0 → ⊥) → (edition ≡ 0) × Refusal why number place count used last finished
       → Answered r n T c root A begin ws rm rm F F W W edition number place count used last finished
-  answer-refused j z x = go j
+  answer_refused j z x = go j
     where
       refuse : {m : ℕ} → why ≡ m → Refused m rm rm edition number place count used last finished
       refuse q = record { no_edition = x.0; is = x.1.is ∙ q; no_place = x.1.no_place; no_cut = x.1.no_cut; no_byte = x.1.no_byte; empty_set = x.1.empty_set; unfinished = x.1.unfinished; kept = refl }
@@ -105,23 +105,23 @@ module _ {r n : ℕ} {T : List ℕ} {c root : ℕ} {A : List ℕ} {begin : Bool}
       go (Judged.no_diagram k h q) = Answered.no_diagram k h (refuse q) same
       go (Judged.too_short k l h q) = Answered.too_short k l h (refuse q) same
       go (Judged.no_chance k l e h q) = Answered.no_chance k l e h (refuse q) same
-      go (Judged.beyond k l e p b q) = let (f, b') = begun-after g b in Answered.beyond k l e p f b' (refuse q) same
+      go (Judged.beyond k l e p b q) = let (f, b') = begun_after g b in Answered.beyond k l e p f b' (refuse q) same
       go (Judged.fine f q) = absurd (z q)
 
-pub judged-fine : {r n : ℕ} {T : List ℕ} {c root : ℕ} {A F W base : List ℕ} {why : ℕ} → Judged r n T c root A F W base why → why ≡ 0 → Fine r n T c root A F W base
-judged-fine (Judged.no_edition k q) z = absurd (omega arith)
-judged-fine (Judged.no_diagram k h q) z = absurd (omega arith)
-judged-fine (Judged.too_short k l h q) z = absurd (omega arith)
-judged-fine (Judged.no_chance k l e h q) z = absurd (omega arith)
-judged-fine (Judged.beyond k l e p b q) z = absurd (omega arith)
-judged-fine (Judged.fine f q) z = f
+pub judged_fine : {r n : ℕ} {T : List ℕ} {c root : ℕ} {A F W base : List ℕ} {why : ℕ} → Judged r n T c root A F W base why → why ≡ 0 → Fine r n T c root A F W base
+judged_fine (Judged.no_edition k q) z = absurd (omega arith)
+judged_fine (Judged.no_diagram k h q) z = absurd (omega arith)
+judged_fine (Judged.too_short k l h q) z = absurd (omega arith)
+judged_fine (Judged.no_chance k l e h q) z = absurd (omega arith)
+judged_fine (Judged.beyond k l e p b q) z = absurd (omega arith)
+judged_fine (Judged.fine f q) z = f
 
 -- ---- not refused
 
 module _ {r n : ℕ} {T : List ℕ} {c root : ℕ} {A : List ℕ} (known : is_edition r ≡ true) (lent : Lent true n T c root) {F W : List ℕ} (enough : Enough n T A F W) (chances : Chances n A)
     (begin : Bool) (ws : List ℕ) (ok : GoodStart n begin ws) where
   pub done_of : {S : Set} {rm rm' F' W' : List ℕ} {edition number place count used : ℕ} {last : List ℕ} {finished : Bool} → S ≡ start_of begin ws
-      → Listing n (toReport r A n (den T root) begin ws) S rm rm' number place count used last finished → Cleared F F' W W' → (number ≡ 0 → edition ≡ r) → (0 < number → edition ≡ 0)
+      → Listing n (to_report r A n (den T root) begin ws) S rm rm' number place count used last finished → Cleared F F' W W' → (number ≡ 0 → edition ≡ r) → (0 < number → edition ≡ 0)
       → Answered r n T c root A begin ws rm rm' F F' W W' edition number place count used last finished
   done_of s (Listing.short h x) z e0 e1 =
       Answered.short known lent enough chances ok h (record {
@@ -135,8 +135,8 @@ module _ {r n : ℕ} {T : List ℕ} {c root : ℕ} {A : List ℕ} (known : is_ed
         kept = x.kept;
       }) z
   done_of {S} {rm} {used = used} {last} {finished} s (Listing.wrote w) z e0 e1 =
-      let l₀ : List Set = toReport r A n (den T root) begin ws in
-      let fit : w.written ≡ fitting n (length rm) l₀ = sym (ap (fitting n (length rm)) w.whole ∙ fitting-all n (length rm) w.written w.left w.within w.full) in
+      let l₀ : List Set = to_report r A n (den T root) begin ws in
+      let fit : w.written ≡ fitting n (length rm) l₀ = sym (ap (fitting n (length rm)) w.whole ∙ fitting_all n (length rm) w.written w.left w.within w.full) in
       let l : Left n (keep (worth r A n) (sets_of (den T root))) (last_or (start_of begin ws) w.written) w.left =
       left_of n (keep (worth r A n) (sets_of (den T root))) (all_sorted lent r A) (all_within lent r A) begin ws ok w.written w.left (sym (started T root n r A begin ws) ∙ w.whole) w.some in
       let last_is : set_of last ≡ last_or (start_of begin ws) w.written = w.last-set ∙ ap (λ (U : Set). last_or U w.written) s in
@@ -155,15 +155,15 @@ module _ {r n : ℕ} {T : List ℕ} {c root : ℕ} {A : List ℕ} (known : is_ed
       }) z
 
 -- what a report wrote, of the start's own set
-pub answer-done : {r n : ℕ} {T : List ℕ} {c root : ℕ} {A F W : List ℕ} {begin : Bool} {ws base : List ℕ} → Begun begin ws base → Fine r n T c root A F W base
+pub answer_done : {r n : ℕ} {T : List ℕ} {c root : ℕ} {A F W : List ℕ} {begin : Bool} {ws base : List ℕ} → Begun begin ws base → Fine r n T c root A F W base
     → {rm rm' F' W' : List ℕ} {edition number place count used : ℕ} {last : List ℕ} {finished : Bool}
-    → (Listing n (toReport r A n (den T root) begin base) (set_of base) rm rm' number place count used last finished × Cleared F F' W W' × (number ≡ 0 → edition ≡ r) × (0 < number → edition ≡ 0))
+    → (Listing n (to_report r A n (den T root) begin base) (set_of base) rm rm' number place count used last finished × Cleared F F' W W' × (number ≡ 0 → edition ≡ r) × (0 < number → edition ≡ 0))
     → Answered r n T c root A begin ws rm rm' F F' W W' edition number place count used last finished
-answer-done {r} {n} {T} {root = root} {A} {begin = begin} {ws} {base} g f {rm} {rm'} {number = number} {place} {count} {used} {last} {finished} (l, z, e0, e1) =
-    done_of f.known f.lent f.enough f.chances begin ws (begun-good g f.inside) (begun-set g)
-    (subst (λ (x : List Set). Listing n (keep (worth r A n) x) (set_of base) rm rm' number place count used last finished) (begun-list g n (den T root)) l) z e0 e1
+answer_done {r} {n} {T} {root = root} {A} {begin = begin} {ws} {base} g f {rm} {rm'} {number = number} {place} {count} {used} {last} {finished} (l, z, e0, e1) =
+    done_of f.known f.lent f.enough f.chances begin ws (begun_good g f.inside) (begun_set g)
+    (subst (λ (x : List Set). Listing n (keep (worth r A n) x) (set_of base) rm rm' number place count used last finished) (begun_list g n (den T root)) l) z e0 e1
 
 -- under an edition
-pub named-listing : {edition : ℕ} {l : Listed} {r : Reported} (n : ℕ) (sets : List Set) (S : Set) (rm rm' : List ℕ) → Names edition l r → Listing n sets S rm rm' l.number l.place l.count l.used l.last l.finished
+pub named_listing : {edition : ℕ} {l : Listed} {r : Reported} (n : ℕ) (sets : List Set) (S : Set) (rm rm' : List ℕ) → Names edition l r → Listing n sets S rm rm' l.number l.place l.count l.used l.last l.finished
     → Listing n sets S rm rm' r.number r.place r.count r.used r.last r.finished
-named-listing n sets S rm rm' q x = subst (λ (l : Listed). Listing n sets S rm rm' l.number l.place l.count l.used l.last l.finished) (sym q.is) x
+named_listing n sets S rm rm' q x = subst (λ (l : Listed). Listing n sets S rm rm' l.number l.place l.count l.used l.last l.finished) (sym q.is) x

@@ -20,7 +20,7 @@ use Rattle.tables.specs.Lent.{Lent}
 use Rattle.tables.proofs.Lent.{root_ordered}
 use Rattle.bracket.specs.Bracketed.{chance_in}
 use Rattle.review.specs.Hopes.{worth}
-use Rattle.report.specs.Answers.{toReport}
+use Rattle.report.specs.Answers.{to_report}
 
 module _ {n : ℕ} {T : List ℕ} {c root : ℕ} (lent : Lent true n T c root) (r : ℕ) (A : List ℕ) where
   pub all_sorted : Sorted (keep (worth r A n) (sets_of (den T root)))
@@ -30,5 +30,5 @@ module _ {n : ℕ} {T : List ℕ} {c root : ℕ} (lent : Lent true n T c root) (
   all_within S h = sets_beyond 0 n (den T root) S (root_ordered lent) (keep_in (worth r A n) S (sets_of (den T root)) h).0
 
 -- a start in the listing is a start in the report
-pub started : (T : List ℕ) (root n r : ℕ) (A : List ℕ) (begin : Bool) (ws : List ℕ) → toReport r A n (den T root) begin ws ≡ from_start begin n (set_of ws) (keep (worth r A n) (sets_of (den T root)))
+pub started : (T : List ℕ) (root n r : ℕ) (A : List ℕ) (begin : Bool) (ws : List ℕ) → to_report r A n (den T root) begin ws ≡ from_start begin n (set_of ws) (keep (worth r A n) (sets_of (den T root)))
 started T root n r A begin ws = sym (report_start billion (chance_in A) n r begin (set_of ws) (sets_of (den T root)))

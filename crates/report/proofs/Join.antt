@@ -21,7 +21,7 @@ use Rattle.bracket.specs.Bracketed.{chance_in}
 use Rattle.listing.proofs.Calls.{bytes_append}
 use Rattle.listing.proofs.Join.{fitting_split, fitting_none}
 use Rattle.review.specs.Hopes.{worth}
-use Rattle.report.specs.Answers.{toReport, Answered}
+use Rattle.report.specs.Answers.{to_report, Answered}
 use Rattle.report.specs.Joined.{Joined}
 use Rattle.report.proofs.Family.{all_sorted, all_within, started}
 use Rattle.report.proofs.Left.{Left, left_of, some_left, none_left}
@@ -38,7 +38,7 @@ pub record Part (n : ℕ) (all l w : List Set) (room' : List ℕ) (count used : 
 
 module _ {r n : ℕ} {T : List ℕ} {c root : ℕ} {A : List ℕ} {begin : Bool} {ws room room' F F' W W' : List ℕ} {edition place count used : ℕ} {last : List ℕ} {finished : Bool} where
   pub part : Answered r n T c root A begin ws room room' F F' W W' edition 0 place count used last finished
-      → Part n (keep (worth r A n) (sets_of (den T root))) (toReport r A n (den T root) begin ws) (fitting n (length room) (toReport r A n (den T root) begin ws)) room' count used last finished
+      → Part n (keep (worth r A n) (sets_of (den T root))) (to_report r A n (den T root) begin ws) (fitting n (length room) (to_report r A n (den T root) begin ws)) room' count used last finished
   part (Answered.no_edition k x z) = absurd (let e = x.is in omega arith)
   part (Answered.no_diagram k h x z) = absurd (let e = x.is in omega arith)
   part (Answered.too_short k v h x z) = absurd (let e = x.is in omega arith)
@@ -47,7 +47,7 @@ module _ {r n : ℕ} {T : List ℕ} {c root : ℕ} {A : List ℕ} {begin : Bool}
   part (Answered.short k v e p ok s x z) = absurd (let e = x.is in omega arith)
   part (Answered.done k v en p ok s x z) =
       let all = keep (worth r A n) (sets_of (den T root)) in
-      let l = toReport r A n (den T root) begin ws in
+      let l = to_report r A n (den T root) begin ws in
       let fit = fitting n (length room) l in
       let (q, e) = fitting_split n (length room) l in
       let some : fit ≡ [] → q ≡ [] = λ z. sym (ap (λ (y : List Set). y ++ q) z) ∙ sym e ∙ fitting_none n (length room) l s z in
@@ -67,7 +67,7 @@ module _ {r n : ℕ} {T : List ℕ} {c root : ℕ} {A : List ℕ} {begin : Bool}
 
   -- a call that did not finish wrote some cut
   pub goes_on : Answered r n T c root A begin ws room room' F F' W W' edition 0 place count used last finished → finished ≡ false → 0 < count
-  goes_on a f = let p = part a in go (fitting n (length room) (toReport r A n (den T root) begin ws)) p.cuts (λ z. p.end.1 (p.some z))
+  goes_on a f = let p = part a in go (fitting n (length room) (to_report r A n (den T root) begin ws)) p.cuts (λ z. p.end.1 (p.some z))
     where
       go : (w : List Set) → count ≡ length w → (w ≡ [] → finished ≡ true) → 0 < count
       go [] e h = absurd (true≢false (sym (h refl) ∙ f))
@@ -81,7 +81,7 @@ join_last {n} {w = w} p = p.bytes ∙ ap (sets_bytes n) (sym (p.whole ∙ ap (λ
 join_more : {n : ℕ} {all l w x : List Set} {room' : List ℕ} {count used : ℕ} {last : List ℕ} {finished : Bool} {bytes : List ℕ} → (p : Part n all l w room' count used last finished) → x ≡ p.q → bytes ≡ sets_bytes n x → take used room' ++ bytes ≡ sets_bytes n l
 join_more {n} {w = w} p q e = ap₂ (λ (x y : List ℕ). x ++ y) p.bytes (e ∙ ap (sets_bytes n) q) ∙ sym (bytes_append n w p.q) ∙ ap (sets_bytes n) (sym p.whole)
 
-pub join : {r n : ℕ} {T : List ℕ} {c root : ℕ} {A : List ℕ} {begin : Bool} {ws bytes : List ℕ} → Joined r n T c root A begin ws bytes → bytes ≡ sets_bytes n (toReport r A n (den T root) begin ws)
+pub join : {r n : ℕ} {T : List ℕ} {c root : ℕ} {A : List ℕ} {begin : Bool} {ws bytes : List ℕ} → Joined r n T c root A begin ws bytes → bytes ≡ sets_bytes n (to_report r A n (den T root) begin ws)
 join (Joined.ends a) = join_last (part a)
 join {r} {n} {T} {c} {root} {A} (Joined.goes {last = last} a j) = join_more (part a) (started T root n r A false last ∙ (part a).after.is) (join j)
 

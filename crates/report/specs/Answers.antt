@@ -18,8 +18,8 @@ use Rattle.listing.specs.Answers.{start_of, GoodStart, Short}
 use Rattle.review.specs.Hopes.{worth}
 
 -- the sets that a call has to report: of those to list, the ones that are reportable under edition r for the chances A
-abbrev pub toReport : ℕ → List ℕ → ℕ → Diagram → Bool → List ℕ → List Set
-toReport r A n d begin ws = keep (worth r A n) (to_list n d begin ws)
+abbrev pub to_report : ℕ → List ℕ → ℕ → Diagram → Bool → List ℕ → List Set
+to_report r A n d begin ws = keep (worth r A n) (to_list n d begin ws)
 
 -- not 9: a chance for each of the n events, and a number in both work areas for each node that the table T has room for
 pub record Enough (n : ℕ) (T A F W : List ℕ) : Type 0 where
@@ -75,9 +75,9 @@ pub data Answered (r n : ℕ) (T : List ℕ) (c root : ℕ) (A : List ℕ) (begi
   beyond : is_edition r ≡ true → Lent true n T c root → Enough n T A F W → Chances n A → begin ≡ false → Beyond n (set_of ws)
       → Refused 13 room room' edition number place count used last finished → Untouched F F' W W'
       → Answered r n T c root A begin ws room room' F F' W W' edition number place count used last finished
-  short : is_edition r ≡ true → Lent true n T c root → Enough n T A F W → Chances n A → GoodStart n begin ws → Short n (length room) (toReport r A n (den T root) begin ws)
+  short : is_edition r ≡ true → Lent true n T c root → Enough n T A F W → Chances n A → GoodStart n begin ws → Short n (length room) (to_report r A n (den T root) begin ws)
       → Refused 14 room room' edition number place count used last finished → Cleared F F' W W'
       → Answered r n T c root A begin ws room room' F F' W W' edition number place count used last finished
-  done : is_edition r ≡ true → Lent true n T c root → Enough n T A F W → Chances n A → GoodStart n begin ws → (Short n (length room) (toReport r A n (den T root) begin ws) → ⊥)
-      → Written r A n (den T root) (start_of begin ws) (fitting n (length room) (toReport r A n (den T root) begin ws)) room room' edition number place count used last finished → Cleared F F' W W'
+  done : is_edition r ≡ true → Lent true n T c root → Enough n T A F W → Chances n A → GoodStart n begin ws → (Short n (length room) (to_report r A n (den T root) begin ws) → ⊥)
+      → Written r A n (den T root) (start_of begin ws) (fitting n (length room) (to_report r A n (den T root) begin ws)) room room' edition number place count used last finished → Cleared F F' W W'
       → Answered r n T c root A begin ws room room' F F' W W' edition number place count used last finished

@@ -15,7 +15,7 @@ ghost use Rattle.walk.specs.Follows.{Starts};
 ghost use Rattle.listing.specs.Calls.{Refusal, Listing};
 ghost use Rattle.review.specs.Weights.{Weighed};
 ghost use Rattle.review.specs.Hopes.{worth, Landed};
-ghost use Rattle.report.specs.Answers.{toReport, Enough, Answered, Cleared};
+ghost use Rattle.report.specs.Answers.{to_report, Enough, Answered, Cleared};
 ghost use Rattle.report.specs.Inner.{Begun, Judged, Names};
 
 // What a report call answers: the edition, which is 0 in a refusal, and what a listing call answers, of reportable cuts.
@@ -128,7 +128,7 @@ fn report_cuts(
     room: &mut [u8],
 ) -> listing::Listed
     requires { (Lent true n nodes.now count root) × (length base ≡ words) × Weighed n chances.now nodes.now few.now picks.now count × (length path.old ≡ limits.events) × (set.old ≡ replicate words 0) }
-    ensures { Listing n (toReport edition chances.now n (den nodes.now root) begin base) (set_of base) room.old room.new result.number result.place result.count result.used result.last result.finished }
+    ensures { Listing n (to_report edition chances.now n (den nodes.now root) begin base) (set_of base) room.old room.new result.number result.place result.count result.used result.last result.finished }
 {
     let p = review::spot(nodes, n, count, root, begin, &base, path, set);
     let first = review::start(nodes, n, count, chances, few, picks, edition, path, set, p);
@@ -179,7 +179,7 @@ fn report_from(
     picks: &mut [u32],
 ) -> Reported
     requires { (Lent true n nodes.now count root) × (length base ≡ words) × Enough n nodes.now chances.now few.old picks.old × Chances n chances.now }
-    ensures { Listing n (toReport edition chances.now n (den nodes.now root) begin base) (set_of base) room.old room.new result.number result.place result.count result.used result.last result.finished × Cleared few.old few.new picks.old picks.new × (result.number ≡ 0 → result.edition ≡ edition) × (0 < result.number → result.edition ≡ 0) }
+    ensures { Listing n (to_report edition chances.now n (den nodes.now root) begin base) (set_of base) room.old room.new result.number result.place result.count result.used result.last result.finished × Cleared few.old few.new picks.old picks.new × (result.number ≡ 0 → result.edition ≡ edition) × (0 < result.number → result.edition ≡ 0) }
 {
     let mut path = [0u32; listing::DEPTH];
     let mut set = sets::empty();
