@@ -7,12 +7,11 @@ use Rattle.bracket.proofs.both_ends.Goals as goal
 
 pub returns : goal.returns
 returns c =
-    let f = c.fill_all in
     record {
       number_is = refl;
       no_place = refl;
-      low_is = low_read c.requires.0.lent.root_in c.number_in-low.ensures f.ensures.0;
-      high_is = high_read c.requires.0.lent.root_in c.number_in-high.ensures f.ensures.1;
-      lows = c.clear.ensures ∙ ap (λ k. replicate k 0) f.auto.1.1.1.1.1.0;
-      highs = c.clear-2.ensures ∙ ap (λ k. replicate k 0) f.auto.1.1.1.1.1.1.0;
+      low_is = low_read c.requires.0.lent.root_in c.number_in-low.ensures c.fill_all.ensures.0;
+      high_is = high_read c.requires.0.lent.root_in c.number_in-high.ensures c.fill_all.ensures.1;
+      lows = c.clear.ensures ∙ ap (λ k. replicate k 0) c.fill_all.auto.lows;
+      highs = c.clear-2.ensures ∙ ap (λ k. replicate k 0) c.fill_all.auto.highs;
     }

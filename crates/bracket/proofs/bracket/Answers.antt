@@ -21,8 +21,7 @@ priced c = let t = c.chances_ok in says_true t.result (not-false t.result c.if-n
 
 pub returns-then-not-is_diagram : goal.returns-then-not-is_diagram
 returns-then-not-is_diagram c =
-    let t = c.is_diagram in
-    no_diagram (says_false t.result (not-true t.result c.if-not-is_diagram.true-raw) t.ensures) (refused_now c.refused.ensures)
+    no_diagram (says_false c.is_diagram.result (not-true c.is_diagram.result c.if-not-is_diagram.true-raw) c.is_diagram.ensures) (refused_now c.refused.ensures)
 
 pub returns-then-chances-n : goal.returns-then-chances-n
 returns-then-chances-n c = too_short (valid c.before.before) (λ e. let h = e.chances in omega arith) (refused_now c.refused-then-chances-n.ensures)
@@ -35,8 +34,7 @@ returns-then-highs-capacity c = too_short (valid c.before.before.before.before) 
 
 pub returns-then-not-chances_ok : goal.returns-then-not-chances_ok
 returns-then-not-chances_ok c =
-    let t = c.chances_ok in
-    no_chance (valid c.before.before.before.before.before.before) (enough c.before.before.before) (says_false t.result (not-true t.result c.if-not-chances_ok.true-raw) t.ensures) (refused_now c.refused-then-not-chances_ok.ensures)
+    no_chance (valid c.before.before.before.before.before.before) (enough c.before.before.before) (says_false c.chances_ok.result (not-true c.chances_ok.result c.if-not-chances_ok.true-raw) c.chances_ok.ensures) (refused_now c.refused-then-not-chances_ok.ensures)
 
 pub both_ends-requires : goal.both_ends-requires
 both_ends-requires c = can_fill (valid c.before.before.before.before.before.before.before) (enough c.before.before.before.before) (priced c.before.before)

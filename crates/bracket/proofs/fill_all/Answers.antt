@@ -68,12 +68,11 @@ pub wide-a-requires : goal.wide-a-requires
 wide-a-requires c = tt
 
 pub fill_node-requires : goal.fill_node-requires
-fill_node-requires c = let w = c.loop-i in can c.before 0 (omega arith) w.lows (omega (arith, w.invariant.2, (at c.before).requires.1)) w.invariant.4
+fill_node-requires c = can c.before 0 (omega arith) c.loop-i.lows (omega (arith, c.loop-i.invariant.2, (at c.before).requires.1)) c.loop-i.invariant.4
 
 pub fill_node-requires-in-loop-i : goal.fill_node-requires-in-loop-i
 fill_node-requires-in-loop-i c =
-    let w = c.loop-i in
-    can c.before.before.before.before.before (billion - 1) (omega arith) w.highs (omega (arith, w.invariant.3, (at c.before.before.before.before.before).requires.2)) w.invariant.5
+    can c.before.before.before.before.before (billion - 1) (omega arith) c.loop-i.highs (omega (arith, c.loop-i.invariant.3, (at c.before.before.before.before.before).requires.2)) c.loop-i.invariant.5
 
 pub overflow_add-i : goal.overflow_add-i
 overflow_add-i c =
@@ -85,17 +84,14 @@ loop-i-smaller c = omega (arith, c.loop-i-test.true)
 
 pub loop-i-preserved : goal.loop-i-preserved
 loop-i-preserved c =
-    let w = c.loop-i in
     let s = at c.before.before.before.before.before.before.before.before in
-    let l = c.fill_node in
-    let h = c.fill_node-in-loop-i in
     let t = c.loop-i-test.true in (
       omega arith,
       omega arith,
-      l.auto.0 ∙ w.invariant.2,
-      h.auto.0 ∙ w.invariant.3,
-      more c.before.before.before.before.before.before.before.before 0 (omega arith) w.lows (omega (arith, w.invariant.2, s.pre.1)) w.invariant.4 l.new.0 l.ensures,
-      more c.before.before.before.before.before.before.before.before (billion - 1) (omega arith) w.highs (omega (arith, w.invariant.3, s.pre.2)) w.invariant.5 h.new.0 h.ensures,
+      c.fill_node.auto.work ∙ c.loop-i.invariant.2,
+      c.fill_node-in-loop-i.auto.work ∙ c.loop-i.invariant.3,
+      more c.before.before.before.before.before.before.before.before 0 (omega arith) c.loop-i.lows (omega (arith, c.loop-i.invariant.2, s.pre.1)) c.loop-i.invariant.4 c.fill_node.new.work c.fill_node.ensures,
+      more c.before.before.before.before.before.before.before.before (billion - 1) (omega arith) c.loop-i.highs (omega (arith, c.loop-i.invariant.3, s.pre.2)) c.loop-i.invariant.5 c.fill_node-in-loop-i.new.work c.fill_node-in-loop-i.ensures,
     )
 
 pub shape_of-lows : goal.shape_of-lows
@@ -106,5 +102,4 @@ shape_of-highs c = c.loop-i.invariant.3
 
 pub returns : goal.returns
 returns c =
-    let w = c.loop-i in
-    (record { at = λ j h. w.invariant.4.at j (omega arith) }, record { at = λ j h. w.invariant.5.at j (omega arith) })
+    (record { at = λ j h. c.loop-i.invariant.4.at j (omega arith) }, record { at = λ j h. c.loop-i.invariant.5.at j (omega arith) })

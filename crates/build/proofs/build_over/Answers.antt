@@ -15,4 +15,4 @@ build_gates-requires c =
     }
 
 pub returns : goal.returns
-returns c = same_room (gates_of c.args.kinds.now c.args.leasts.now 0 c.args.sizes.now c.args.inputs.now) c.build_gates.new.1.1.1.1.0 c.build_gates.new.1.1.1.1.1.0 c.build_gates.new.0 c.build_gates.new.1.0 c.build_gates.new.1.1.0 c.build_gates.result c.clear.auto.work c.build_gates.ensures
+returns c = same_room (gates_of c.args.kinds.now c.args.leasts.now 0 c.args.sizes.now c.args.inputs.now) c.build_gates.new.gates c.build_gates.new.added c.build_gates.new.nodes c.build_gates.new.heads c.build_gates.new.next c.build_gates.result c.clear.auto.work c.build_gates.ensures

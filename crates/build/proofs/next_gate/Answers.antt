@@ -31,4 +31,4 @@ gate_node-requires c =
     }
 
 pub returns : goal.returns
-returns c = gate_is c.requires.plan c.requires.g_in_bounds c.requires.at_value (map (den c.args.nodes.now) c.args.gates.now) c.args.nodes.now c.args.count c.gate_node.new.0 c.gate_node.new.1.0 c.gate_node.new.1.1.0 c.gate_node.new.1.1.1.0 c.gate_node.result c.gate_node.ensures
+returns c = gate_is c.requires.plan c.requires.g_in_bounds c.requires.at_value (map (den c.args.nodes.now) c.args.gates.now) c.args.nodes.now c.args.count c.gate_node.new.nodes c.gate_node.new.heads c.gate_node.new.next c.gate_node.new.memo c.gate_node.result c.gate_node.ensures

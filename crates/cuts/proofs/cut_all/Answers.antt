@@ -13,7 +13,6 @@ loop-i-init c = (c.requires.halfway, omega arith, omega arith, record { cut = re
 pub cut_step-requires : goal.cut_step-requires
 cut_step-requires c =
     let base = c.requires.base in
-    let long = c.requires.root_in_bounds in
     let halfway = c.loop-i.invariant.0 in
     let two = c.loop-i.invariant.1 in
     let same = c.loop-i.invariant.3 in
@@ -21,7 +20,7 @@ cut_step-requires c =
     record {
       base = base;
       halfway = halfway;
-      le_i = (two, more, omega (arith, same.own, long));
+      le_i = (two, more, omega (arith, same.own, c.requires.root_in_bounds));
     }
 
 pub shape_of-cut-in-Short : goal.shape_of-cut-in-Short
@@ -54,10 +53,9 @@ returns-in-Short c = rw c.in-Short.is at c.cut_step.ensures
 
 pub overflow_add-i : goal.overflow_add-i
 overflow_add-i c =
-    let long = c.requires.root_in_bounds in
     let bytes = c.well_formed.1.1.1.1.0 in
     let more = c.loop-i-test.true in
-    omega (arith, more, long, bytes)
+    omega (arith, more, c.requires.root_in_bounds, bytes)
 
 pub loop-i-preserved : goal.loop-i-preserved
 loop-i-preserved c =
@@ -68,16 +66,14 @@ loop-i-preserved c =
 
 pub offset_bounds-own-root : goal.offset_bounds-own-root
 offset_bounds-own-root c =
-    let long = c.requires.root_in_bounds in
     let bytes = c.well_formed.1.1.1.1.0 in
     let same = c.loop-i.invariant.3 in
-    omega (arith, bytes, same.own, long)
+    omega (arith, bytes, same.own, c.requires.root_in_bounds)
 
 pub bounds-own-root : goal.bounds-own-root
 bounds-own-root c =
-    let long = c.requires.root_in_bounds in
     let same = c.loop-i.invariant.3 in
-    omega (arith, same.own, long)
+    omega (arith, same.own, c.requires.root_in_bounds)
 
 pub shape_of-cut : goal.shape_of-cut
 shape_of-cut c =

@@ -48,5 +48,4 @@ returns-in-Short c =
 pub returns-in-Done : goal.returns-in-Done
 returns-in-Done c =
     let taken = rw c.in-Done.is at c.without.ensures in
-    let made = c.make_z in
-    node_made c.requires taken made.new.0 made.new.1.0 made.new.1.1.0 made.result made.ensures
+    node_made c.requires taken c.make_z.new.nodes c.make_z.new.heads c.make_z.new.next c.make_z.result c.make_z.ensures

@@ -14,24 +14,20 @@ pub cut_node-requires : goal.cut_node-requires
 cut_node-requires c =
     let base = c.requires.base in
     let halfway = c.requires.halfway in
-    let range = c.requires.le_i in
-    up_turn base halfway range.0 range.1 c.if-marks-i-eq0.false range.2
+    up_turn base halfway c.requires.le_i.0 c.requires.le_i.1 c.if-marks-i-eq0.false c.requires.le_i.2
 
 pub offset_bounds-own-i : goal.offset_bounds-own-i
 offset_bounds-own-i c =
-    let range = c.requires.le_i in
-    omega (arith, c.well_formed.1.1.1.1.0, range)
+    omega (arith, c.well_formed.1.1.1.1.0, c.requires.le_i)
 
 pub returns-in-Short : goal.returns-in-Short
 returns-in-Short c =
     let base = c.requires.base in
     let halfway = c.requires.halfway in
-    let range = c.requires.le_i in
-    up_short base halfway range.0 range.1 c.if-marks-i-eq0.false (rw c.in-Short.is at c.cut_node.ensures)
+    up_short base halfway c.requires.le_i.0 c.requires.le_i.1 c.if-marks-i-eq0.false (rw c.in-Short.is at c.cut_node.ensures)
 
 pub returns-in-Done : goal.returns-in-Done
 returns-in-Done c =
     let base = c.requires.base in
     let halfway = c.requires.halfway in
-    let range = c.requires.le_i in
-    up_done base halfway range.0 range.1 c.if-marks-i-eq0.false range.2 (rw c.in-Done.is at c.cut_node.ensures)
+    up_done base halfway c.requires.le_i.0 c.requires.le_i.1 c.if-marks-i-eq0.false c.requires.le_i.2 (rw c.in-Done.is at c.cut_node.ensures)

@@ -35,8 +35,7 @@ loop-i-preserved c =
     let held = c.requires.held in
     let marking = c.loop-i.invariant.0 in
     let two = c.loop-i-test.true in
-    let body = c.mark_branches in
-    (marking_step held marking two body.auto.1.0 body.ensures, body.auto.1.0 ∙ c.loop-i.invariant.1)
+    (marking_step held marking two c.mark_branches.auto.marks c.mark_branches.ensures, c.mark_branches.auto.marks ∙ c.loop-i.invariant.1)
 
 pub shape_of-marks : goal.shape_of-marks
 shape_of-marks c =

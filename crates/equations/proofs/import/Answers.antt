@@ -43,13 +43,13 @@ judged-a-requires c =
     }
 
 pub shape_of-heads : goal.shape_of-heads
-shape_of-heads c = c.clear_work.auto.heads ∙ length_front c.args.heads.now c.judged-a.new.1.0 (length c.args.text.now + 1) c.judged-a.auto.heads
+shape_of-heads c = c.clear_work.auto.heads ∙ length_front c.args.heads.now c.judged-a.new.heads (length c.args.text.now + 1) c.judged-a.auto.heads
 
 pub shape_of-next : goal.shape_of-next
-shape_of-next c = c.clear_work.auto.next ∙ length_front c.args.next.now c.judged-a.new.1.1.0 (length c.args.text.now + 1) c.judged-a.auto.next
+shape_of-next c = c.clear_work.auto.next ∙ length_front c.args.next.now c.judged-a.new.next (length c.args.text.now + 1) c.judged-a.auto.next
 
 pub shape_of-names : goal.shape_of-names
-shape_of-names c = c.clear_work.auto.names ∙ length_front c.args.names.now c.judged-a.new.1.1.1.0 (length c.args.text.now + 1) c.judged-a.auto.names
+shape_of-names c = c.clear_work.auto.names ∙ length_front c.args.names.now c.judged-a.new.names (length c.args.text.now + 1) c.judged-a.auto.names
 
 pub shape_of-defs : goal.shape_of-defs
 shape_of-defs c = c.clear_work.auto.defs ∙ c.judged-a.auto.defs
@@ -76,4 +76,4 @@ pub shape_of-shown : goal.shape_of-shown
 shape_of-shown c = c.judged-a.auto.shown ∙ c.clear-2.auto.work
 
 pub returns : goal.returns
-returns c = imported (says_true c.long_enough.result (not-false c.long_enough.result c.if-not-long_enough.false-raw) c.long_enough.ensures) c.clear.ensures c.clear-2.ensures (worked_from (c.clear_work.ensures _ _ _ _) (length_front c.args.heads.now c.judged-a.new.1.0 (length c.args.text.now + 1) c.judged-a.auto.heads) (length_front c.args.next.now c.judged-a.new.1.1.0 (length c.args.text.now + 1) c.judged-a.auto.next) (length_front c.args.names.now c.judged-a.new.1.1.1.0 (length c.args.text.now + 1) c.judged-a.auto.names) c.judged-a.auto.defs c.judged-a.auto.marks c.judged-a.auto.amounts c.judged-a.auto.starts c.judged-a.auto.rights c.judged-a.auto.order) c.judged-a.ensures
+returns c = imported (says_true c.long_enough.result (not-false c.long_enough.result c.if-not-long_enough.false-raw) c.long_enough.ensures) c.clear.ensures c.clear-2.ensures (worked_from (c.clear_work.ensures _ _ _ _) (length_front c.args.heads.now c.judged-a.new.heads (length c.args.text.now + 1) c.judged-a.auto.heads) (length_front c.args.next.now c.judged-a.new.next (length c.args.text.now + 1) c.judged-a.auto.next) (length_front c.args.names.now c.judged-a.new.names (length c.args.text.now + 1) c.judged-a.auto.names) c.judged-a.auto.defs c.judged-a.auto.marks c.judged-a.auto.amounts c.judged-a.auto.starts c.judged-a.auto.rights c.judged-a.auto.order) c.judged-a.ensures

@@ -10,17 +10,15 @@ use Rattle.gates.proofs.gate_node.Goals as goal
 
 pub returns-then-kind-eq-AND : goal.returns-then-kind-eq-AND
 returns-then-kind-eq-AND c =
-    let g = c.gate_over in
     let is = map input_of c.args.inputs.now in
-    gains_counted (map (den c.args.nodes.now) c.args.gates.now) c.args.kind c.args.k is c.args.nodes.now c.args.count g.new.0 g.new.1.0 g.new.1.1.0 g.new.1.1.1.0 g.result
-    is (all_of_and is c.if-kind-eq-AND.true) g.ensures
+    gains_counted (map (den c.args.nodes.now) c.args.gates.now) c.args.kind c.args.k is c.args.nodes.now c.args.count c.gate_over.new.nodes c.gate_over.new.heads c.gate_over.new.next c.gate_over.new.memo c.gate_over.result
+    is (all_of_and is c.if-kind-eq-AND.true) c.gate_over.ensures
 
 pub returns-then-kind-eq-OR : goal.returns-then-kind-eq-OR
 returns-then-kind-eq-OR c =
-    let g = c.gate_over-then-kind-eq-OR in
     let is = map input_of c.args.inputs.now in
-    gains_counted (map (den c.args.nodes.now) c.args.gates.now) c.args.kind c.args.k is c.args.nodes.now c.args.count g.new.0 g.new.1.0 g.new.1.1.0 g.new.1.1.1.0 g.result
-    is (all_of_or is c.if-kind-eq-AND.false c.if-kind-eq-OR.true) g.ensures
+    gains_counted (map (den c.args.nodes.now) c.args.gates.now) c.args.kind c.args.k is c.args.nodes.now c.args.count c.gate_over-then-kind-eq-OR.new.nodes c.gate_over-then-kind-eq-OR.new.heads c.gate_over-then-kind-eq-OR.new.next c.gate_over-then-kind-eq-OR.new.memo c.gate_over-then-kind-eq-OR.result
+    is (all_of_or is c.if-kind-eq-AND.false c.if-kind-eq-OR.true) c.gate_over-then-kind-eq-OR.ensures
 
 pub slice_bounds-own-end : goal.slice_bounds-own-end
 slice_bounds-own-end c = found_fits c.distinct-n.ensures c.requires.own
@@ -39,7 +37,6 @@ gate_over-requires-2 c =
 
 pub returns : goal.returns
 returns c =
-    let g = c.gate_over-2 in
     let is = map input_of c.args.inputs.now in
-    gains_counted (map (den c.args.nodes.now) c.args.gates.now) c.args.kind c.args.k is c.args.nodes.now c.args.count g.new.0 g.new.1.0 g.new.1.1.0 g.new.1.1.1.0 g.result
-    (map input_of (take c.distinct-n.result c.distinct-n.new.1.0)) (distinct_of_least c.distinct-n.ensures c.if-kind-eq-AND.false c.if-kind-eq-OR.false) g.ensures
+    gains_counted (map (den c.args.nodes.now) c.args.gates.now) c.args.kind c.args.k is c.args.nodes.now c.args.count c.gate_over-2.new.nodes c.gate_over-2.new.heads c.gate_over-2.new.next c.gate_over-2.new.memo c.gate_over-2.result
+    (map input_of (take c.distinct-n.result c.distinct-n.new.out)) (distinct_of_least c.distinct-n.ensures c.if-kind-eq-AND.false c.if-kind-eq-OR.false) c.gate_over-2.ensures

@@ -41,7 +41,7 @@ combined-requires c =
 pub returns-in-To : goal.returns-in-To
 returns-in-To c =
     let a = rw c.in-To.is at c.input_nodes.ensures in
-    gate_gains c.args.gates.now c.args.inputs.now c.requires.held c.requires.own a c.args.kind c.args.k c.combined.new.0 c.combined.new.1.0 c.combined.new.1.1.0 c.combined.new.1.1.1.0 c.combined.result c.combined.ensures
+    gate_gains c.args.gates.now c.args.inputs.now c.requires.held c.requires.own a c.args.kind c.args.k c.combined.new.nodes c.combined.new.heads c.combined.new.next c.combined.new.memo c.combined.result c.combined.ensures
 
 pub returns-in-Full : goal.returns-in-Full
 returns-in-Full c = gate_short (map (den c.args.nodes.now) c.args.gates.now) c.args.kind c.args.k (map input_of c.args.inputs.now) (rw c.in-Full.is at c.input_nodes.ensures)

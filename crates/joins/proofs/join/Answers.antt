@@ -21,5 +21,4 @@ returns-in-Node c =
 
 pub returns-in-Unknown : goal.returns-in-Unknown
 returns-in-Unknown c =
-    let j = c.join_nodes in
-    joins_arranged c.requires c.least-f.ensures c.most-g.ensures j.new.0 j.new.1.0 j.new.1.1.0 j.new.1.1.1.0 j.result j.ensures
+    joins_arranged c.requires c.least-f.ensures c.most-g.ensures c.join_nodes.new.nodes c.join_nodes.new.heads c.join_nodes.new.next c.join_nodes.new.memo c.join_nodes.result c.join_nodes.ensures

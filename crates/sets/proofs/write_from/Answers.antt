@@ -20,10 +20,10 @@ pub overflow_shl-ws : goal.overflow_shl-ws
 overflow_shl-ws c = omega arith
 
 pub write_word-end-requires : goal.write_word-end-requires
-write_word-end-requires c = let b = c.requires.1 in let f = (c.type_inv.ws (c.args.low / 64)).fits in (omega (arith, low_word b, c.requires.0), first_room b c.requires.2 f, first_room b c.requires.3 f)
+write_word-end-requires c = let f = (c.type_inv.ws (c.args.low / 64)).fits in (omega (arith, low_word c.requires.1, c.requires.0), first_room c.requires.1 c.requires.2 f, first_room c.requires.1 c.requires.3 f)
 
 pub loop-k-init : goal.loop-k-init
-loop-k-init c = let b = c.requires.1 in let f = (c.type_inv.ws (c.args.low / 64)).fits in (omega (arith, b.rise), spell_again (first_word b c.requires.2 f c.write_word-end.ensures.0), spell_again (first_word b c.requires.3 f c.write_word-end.ensures.1))
+loop-k-init c = let f = (c.type_inv.ws (c.args.low / 64)).fits in (omega (arith, c.requires.1.rise), spell_again (first_word c.requires.1 c.requires.2 f c.write_word-end.ensures.0), spell_again (first_word c.requires.1 c.requires.3 f c.write_word-end.ensures.1))
 
 pub overflow_add-k : goal.overflow_add-k
 overflow_add-k c = omega (arith, high_word c.requires.1, c.requires.0)
@@ -35,13 +35,13 @@ pub bounds-ws-k-in-loop-k : goal.bounds-ws-k-in-loop-k
 bounds-ws-k-in-loop-k c = omega (arith, high_word c.requires.1)
 
 pub write_word-end-requires-in-loop-k : goal.write_word-end-requires-in-loop-k
-write_word-end-requires-in-loop-k c = let b = c.requires.1 in (omega (arith, high_word b, c.requires.0), next_room b c.loop-k.invariant.1 c.loop-k-test.true, next_room b c.loop-k.invariant.2 c.loop-k-test.true)
+write_word-end-requires-in-loop-k c = (omega (arith, high_word c.requires.1, c.requires.0), next_room c.requires.1 c.loop-k.invariant.1 c.loop-k-test.true, next_room c.requires.1 c.loop-k.invariant.2 c.loop-k-test.true)
 
 pub loop-k-smaller : goal.loop-k-smaller
 loop-k-smaller c = omega arith
 
 pub loop-k-preserved : goal.loop-k-preserved
-loop-k-preserved c = let b = c.requires.1 in (omega arith, next_word b c.loop-k.invariant.1 c.loop-k-test.true c.write_word-end-in-loop-k.ensures.0, next_word b c.loop-k.invariant.2 c.loop-k-test.true c.write_word-end-in-loop-k.ensures.1)
+loop-k-preserved c = (omega arith, next_word c.requires.1 c.loop-k.invariant.1 c.loop-k-test.true c.write_word-end-in-loop-k.ensures.0, next_word c.requires.1 c.loop-k.invariant.2 c.loop-k-test.true c.write_word-end-in-loop-k.ensures.1)
 
 pub shape_of-line : goal.shape_of-line
 shape_of-line c = spell_long c.loop-k.invariant.1 ∙ c.write_word-end.auto.line
@@ -51,7 +51,7 @@ shape_of-left c = spell_long c.loop-k.invariant.2 ∙ c.write_word-end.auto.left
 
 pub returns : goal.returns
 returns c =
-    let b = c.requires.1 in let f = (c.type_inv.ws (c.args.low / 64)).fits in (
-      no_word b c.loop-k.invariant.1 c.loop-k.invariant.0 c.loop-k-test.false (first_word b c.requires.2 f c.write_word-end.ensures.0),
-      no_word b c.loop-k.invariant.2 c.loop-k.invariant.0 c.loop-k-test.false (first_word b c.requires.3 f c.write_word-end.ensures.1),
+    let f = (c.type_inv.ws (c.args.low / 64)).fits in (
+      no_word c.requires.1 c.loop-k.invariant.1 c.loop-k.invariant.0 c.loop-k-test.false (first_word c.requires.1 c.requires.2 f c.write_word-end.ensures.0),
+      no_word c.requires.1 c.loop-k.invariant.2 c.loop-k.invariant.0 c.loop-k-test.false (first_word c.requires.1 c.requires.3 f c.write_word-end.ensures.1),
     )

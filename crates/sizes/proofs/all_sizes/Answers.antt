@@ -15,10 +15,9 @@ list_reached-many-requires c =
 pub largest_size-last-requires : goal.largest_size-last-requires
 largest_size-last-requires c =
     let pre = c.requires.held in
-    let long = c.requires.root_in_bounds in
     record {
       held = (pre.0, c.list_reached-many.ensures, pre.1);
-      root_in_bounds = (long.1, long.4);
+      root_in_bounds = (c.requires.root_in_bounds.1, c.requires.root_in_bounds.4);
     }
 
 pub up_to-requires : goal.up_to-requires
@@ -27,12 +26,11 @@ up_to-requires c =
     let none = before_none (length c.args.less.now) c.clear.ensures in
     let few = pre.1 in
     let less = c.clear.auto.work in
-    let long = c.requires.root_in_bounds in
     let work = c.largest_size-last.auto.work in
     record {
       held = (pre.0, c.list_reached-many.ensures, none);
       last_value = (c.largest_size-last.ensures, omega (arith, c.largest_size-last.ensures, few), pre.2);
-      root_in_bounds = (omega (arith, less, long.0), omega (arith, work, long.1), omega (arith, less, long.3), omega (arith, work, long.4));
+      root_in_bounds = (omega (arith, less, c.requires.root_in_bounds.0), omega (arith, work, c.requires.root_in_bounds.1), omega (arith, less, c.requires.root_in_bounds.3), omega (arith, work, c.requires.root_in_bounds.4));
     }
 
 pub returns : goal.returns

@@ -21,8 +21,7 @@ loop-p-init c =
     let nodes = c.args.nodes.now in
     let list = c.args.reached.now in
     let work = c.args.work.now in
-    let long = c.requires.root_in_bounds in
-    (simp length-set refl, deep_start nodes list work long.1)
+    (simp length-set refl, deep_start nodes list work c.requires.root_in_bounds.1)
 
 pub bounds-reached-p : goal.bounds-reached-p
 bounds-reached-p c =
@@ -57,8 +56,7 @@ offset_bounds-work-f c =
     let low = turn_low held listed inside refl in
     let work = c.args.work.now in
     let same = c.loop-p.invariant.0 ∙ length_two work 0 0 1 0 in
-    let long = c.requires.root_in_bounds in
-    omega (arith, fbelow, low, same, long.0)
+    omega (arith, fbelow, low, same, c.requires.root_in_bounds.0)
 
 pub bounds-work-f : goal.bounds-work-f
 bounds-work-f c =
@@ -69,8 +67,7 @@ bounds-work-f c =
     let low = turn_low held listed inside refl in
     let work = c.args.work.now in
     let same = c.loop-p.invariant.0 ∙ length_two work 0 0 1 0 in
-    let long = c.requires.root_in_bounds in
-    omega (arith, fbelow, low, same, long.0)
+    omega (arith, fbelow, low, same, c.requires.root_in_bounds.0)
 
 pub overflow_add-x : goal.overflow_add-x
 overflow_add-x c =
@@ -91,8 +88,7 @@ offset_bounds-work-s c =
     let low = turn_low held listed inside refl in
     let work = c.args.work.now in
     let same = c.loop-p.invariant.0 ∙ length_two work 0 0 1 0 in
-    let long = c.requires.root_in_bounds in
-    omega (arith, sbelow, low, same, long.0)
+    omega (arith, sbelow, low, same, c.requires.root_in_bounds.0)
 
 pub bounds-work-s : goal.bounds-work-s
 bounds-work-s c =
@@ -103,8 +99,7 @@ bounds-work-s c =
     let low = turn_low held listed inside refl in
     let work = c.args.work.now in
     let same = c.loop-p.invariant.0 ∙ length_two work 0 0 1 0 in
-    let long = c.requires.root_in_bounds in
-    omega (arith, sbelow, low, same, long.0)
+    omega (arith, sbelow, low, same, c.requires.root_in_bounds.0)
 
 pub offset_bounds-work-i : goal.offset_bounds-work-i
 offset_bounds-work-i c =
@@ -114,8 +109,7 @@ offset_bounds-work-i c =
     let low = turn_low held listed inside refl in
     let work = c.args.work.now in
     let same = c.loop-p.invariant.0 ∙ length_two work 0 0 1 0 in
-    let long = c.requires.root_in_bounds in
-    omega (arith, low, same, long.0)
+    omega (arith, low, same, c.requires.root_in_bounds.0)
 
 pub bounds-work-i : goal.bounds-work-i
 bounds-work-i c =
@@ -125,8 +119,7 @@ bounds-work-i c =
     let low = turn_low held listed inside refl in
     let work = c.args.work.now in
     let same = c.loop-p.invariant.0 ∙ length_two work 0 0 1 0 in
-    let long = c.requires.root_in_bounds in
-    omega (arith, low, same, long.0)
+    omega (arith, low, same, c.requires.root_in_bounds.0)
 
 pub loop-p-smaller : goal.loop-p-smaller
 loop-p-smaller c =
@@ -136,8 +129,7 @@ loop-p-smaller c =
 pub loop-p-preserved : goal.loop-p-preserved
 loop-p-preserved c =
     let list = c.args.reached.now in
-    let larger = c.larger in
-    let stored = length-set c.loop-p.work (get_or list c.loop-p.p 0) larger.result in
+    let stored = length-set c.loop-p.work (get_or list c.loop-p.p 0) c.larger.result in
     let length = c.loop-p.invariant.0 in
     let held = c.requires.held.0 in
     let listed = c.requires.held.1 in
@@ -146,15 +138,13 @@ loop-p-preserved c =
     let low = turn_low held listed inside refl in
     let work = c.args.work.now in
     let same = c.loop-p.invariant.0 ∙ length_two work 0 0 1 0 in
-    let long = c.requires.root_in_bounds in
-    (stored ∙ length, deep_step held listed inside refl c.failed_of-f.ensures c.sound_of-s.ensures values (omega (arith, low, same, long.0)) refl refl larger.ensures)
+    (stored ∙ length, deep_step held listed inside refl c.failed_of-f.ensures c.sound_of-s.ensures values (omega (arith, low, same, c.requires.root_in_bounds.0)) refl refl c.larger.ensures)
 
 pub bounds-work-root : goal.bounds-work-root
 bounds-work-root c =
     let work = c.args.work.now in
     let same = c.loop-p.invariant.0 ∙ length_two work 0 0 1 0 in
-    let long = c.requires.root_in_bounds in
-    omega (arith, same, long.0)
+    omega (arith, same, c.requires.root_in_bounds.0)
 
 pub shape_of-work : goal.shape_of-work
 shape_of-work c =

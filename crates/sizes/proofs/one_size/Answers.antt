@@ -21,9 +21,7 @@ loop-p-init c =
     let list = c.args.reached.now in
     let work = c.args.work.now in
     let k = c.args.k in
-    let single = c.single_of in
-    let long = c.requires.root_in_bounds in
-    (simp length-set refl, passing_start nodes list work k single.result long.2 single.ensures)
+    (simp length-set refl, passing_start nodes list work k c.single_of.result c.requires.root_in_bounds.2 c.single_of.ensures)
 
 pub bounds-reached-p : goal.bounds-reached-p
 bounds-reached-p c =
@@ -56,18 +54,15 @@ add-requires c =
     let inside = c.loop-p-test.true in
     let low = turn_low held listed inside refl in
     let work = c.args.work.now in
-    let single = c.single_of in
-    let same = c.loop-p.invariant.0 ∙ length_two work 0 0 1 single.result in
-    let long = c.requires.root_in_bounds in
+    let same = c.loop-p.invariant.0 ∙ length_two work 0 0 1 c.single_of.result in
     let fbelow = turn_failed held listed inside refl c.failed_of-f.ensures c.sound_of-s.ensures in
     let sbelow = turn_sound held listed inside refl c.failed_of-f.ensures c.sound_of-s.ensures in
-    (omega (arith, low, same, long.1), omega (arith, fbelow, low, long.0), omega (arith, sbelow, low, same, long.1))
+    (omega (arith, low, same, c.requires.root_in_bounds.1), omega (arith, fbelow, low, c.requires.root_in_bounds.0), omega (arith, sbelow, low, same, c.requires.root_in_bounds.1))
 
 pub shape_of-work-then-not-add : goal.shape_of-work-then-not-add
 shape_of-work-then-not-add c =
     let work = c.args.work.now in
-    let single = c.single_of in
-    let same = c.loop-p.invariant.0 ∙ length_two work 0 0 1 single.result in
+    let same = c.loop-p.invariant.0 ∙ length_two work 0 0 1 c.single_of.result in
     c.add.auto.work ∙ same
 
 pub returns-then-not-add : goal.returns-then-not-add
@@ -77,8 +72,7 @@ returns-then-not-add c =
     let inside = c.loop-p-test.true in
     let before = c.requires.held.2 in
     let passing = c.loop-p.invariant.1 in
-    let added = c.add in
-    passed_over (passing_over held listed inside refl c.failed_of-f.ensures c.sound_of-s.ensures before passing added.ensures (not-true added.result c.if-not-add.true-raw))
+    passed_over (passing_over held listed inside refl c.failed_of-f.ensures c.sound_of-s.ensures before passing c.add.ensures (not-true c.add.result c.if-not-add.true-raw))
 
 pub loop-p-smaller : goal.loop-p-smaller
 loop-p-smaller c =
@@ -87,7 +81,6 @@ loop-p-smaller c =
 
 pub loop-p-preserved : goal.loop-p-preserved
 loop-p-preserved c =
-    let added = c.add in
     let held = c.requires.held.0 in
     let listed = c.requires.held.1 in
     let inside = c.loop-p-test.true in
@@ -95,16 +88,13 @@ loop-p-preserved c =
     let passing = c.loop-p.invariant.1 in
     let low = turn_low held listed inside refl in
     let work = c.args.work.now in
-    let single = c.single_of in
-    let same = c.loop-p.invariant.0 ∙ length_two work 0 0 1 single.result in
-    let long = c.requires.root_in_bounds in
-    (added.auto.1.0 ∙ c.loop-p.invariant.0, passing_step held listed inside refl c.failed_of-f.ensures c.sound_of-s.ensures before passing added.ensures (not-false added.result c.if-not-add.false-raw) (omega (arith, low, same, long.1)))
+    let same = c.loop-p.invariant.0 ∙ length_two work 0 0 1 c.single_of.result in
+    (c.add.auto.work ∙ c.loop-p.invariant.0, passing_step held listed inside refl c.failed_of-f.ensures c.sound_of-s.ensures before passing c.add.ensures (not-false c.add.result c.if-not-add.false-raw) (omega (arith, low, same, c.requires.root_in_bounds.1)))
 
 pub shape_of-work : goal.shape_of-work
 shape_of-work c =
     let work = c.args.work.now in
-    let single = c.single_of in
-    let same = c.loop-p.invariant.0 ∙ length_two work 0 0 1 single.result in
+    let same = c.loop-p.invariant.0 ∙ length_two work 0 0 1 c.single_of.result in
     same
 
 pub returns : goal.returns

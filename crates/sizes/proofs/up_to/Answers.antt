@@ -19,11 +19,10 @@ one_size-requires c =
     let listed = c.requires.held.1 in
     let before = c.loop-k.invariant.3 in
     let len0 = c.loop-k.invariant.0 in
-    let long = c.requires.root_in_bounds in
     let len1 = c.loop-k.invariant.1 in
     record {
       held = (held, listed, before);
-      root_in_bounds = (omega (arith, len0, long.0), omega (arith, len1, long.1), omega (arith, len1, long.3));
+      root_in_bounds = (omega (arith, len0, c.requires.root_in_bounds.0), omega (arith, len1, c.requires.root_in_bounds.1), omega (arith, len1, c.requires.root_in_bounds.3));
     }
 
 pub returns-then-not-one_size : goal.returns-then-not-one_size
@@ -33,8 +32,7 @@ pub bounds-work-root : goal.bounds-work-root
 bounds-work-root c =
     let kept1 = c.one_size.auto.work in
     let len1 = c.loop-k.invariant.1 in
-    let long = c.requires.root_in_bounds in
-    omega (arith, kept1, len1, long.1)
+    omega (arith, kept1, len1, c.requires.root_in_bounds.1)
 
 pub bounds-totals-k : goal.bounds-totals-k
 bounds-totals-k c =
@@ -65,11 +63,10 @@ one_size-requires-in-loop-k c =
     let fits1 = (c.one_size.ensures.fits (not-false c.one_size.result c.if-not-one_size.false-raw)) in
     let kept1 = c.one_size.auto.work in
     let len1 = c.loop-k.invariant.1 in
-    let long = c.requires.root_in_bounds in
     let len0 = c.loop-k.invariant.0 in
     record {
       held = (held, listed, fits1);
-      root_in_bounds = (omega (arith, kept1, len1, long.1), omega (arith, len0, long.0), omega (arith, len0, long.2));
+      root_in_bounds = (omega (arith, kept1, len1, c.requires.root_in_bounds.1), omega (arith, len0, c.requires.root_in_bounds.0), omega (arith, len0, c.requires.root_in_bounds.2));
     }
 
 pub returns-then-not-one_size-2 : goal.returns-then-not-one_size-2
@@ -79,8 +76,7 @@ pub bounds-less-root : goal.bounds-less-root
 bounds-less-root c =
     let kept2 = c.one_size-in-loop-k.auto.work in
     let len0 = c.loop-k.invariant.0 in
-    let long = c.requires.root_in_bounds in
-    omega (arith, kept2, len0, long.0)
+    omega (arith, kept2, len0, c.requires.root_in_bounds.0)
 
 pub overflow_add-totals : goal.overflow_add-totals
 overflow_add-totals c =

@@ -9,9 +9,7 @@ use Rattle.store.proofs.first_slot.Goals as goal
 
 pub overflow_mul-y : goal.overflow_mul-y
 overflow_mul-y c =
-    let m = c.mixed-x in
-    let n = c.mixed in
-    let q = scaled_fits m.result n.result m.ensures.1 (omega (arith, n.ensures.1)) in search (rules, q)
+    let q = scaled_fits c.mixed-x.result c.mixed.result c.mixed-x.ensures.1 (omega (arith, c.mixed.ensures.1)) in search (rules, q)
 
 pub overflow_mul-result : goal.overflow_mul-result
 overflow_mul-result c =
@@ -21,10 +19,8 @@ overflow_mul-result c =
 pub returns : goal.returns
 unfolding first_slot
 returns c =
-    let m = c.mixed-x in
-    let n = c.mixed in
     let slots = c.args.slots in
     record {
-      is = ap₂ (λ x z. x * z % 4294967296 * (slots % 4294967296) / 4294967296) m.ensures.0 n.ensures.0;
-      below = scaled_below (m.result * n.result % 4294967296) (slots % 4294967296) slots (omega arith) (omega arith) c.requires;
+      is = ap₂ (λ x z. x * z % 4294967296 * (slots % 4294967296) / 4294967296) c.mixed-x.ensures.0 c.mixed.ensures.0;
+      below = scaled_below (c.mixed-x.result * c.mixed.result % 4294967296) (slots % 4294967296) slots (omega arith) (omega arith) c.requires;
     }

@@ -8,5 +8,4 @@ returns-then-failed-sound c = made_same c.requires.store c.args.e c.requires.fai
 
 pub returns : goal.returns
 returns c =
-    let a = c.find_or_add-placed in
-    made_node c.requires.store c.args.e c.requires.failed_bound c.requires.sound_bound a.new.0 a.new.1.0 a.new.1.1.0 a.result a.ensures c.as_built.ensures c.if-failed-sound.false
+    made_node c.requires.store c.args.e c.requires.failed_bound c.requires.sound_bound c.find_or_add-placed.new.nodes c.find_or_add-placed.new.heads c.find_or_add-placed.new.next c.find_or_add-placed.result c.find_or_add-placed.ensures c.as_built.ensures c.if-failed-sound.false

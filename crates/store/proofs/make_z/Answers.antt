@@ -8,5 +8,4 @@ returns-then-failed-eq0 c = made_none c.requires.store c.args.e c.requires.faile
 
 pub returns : goal.returns
 returns c =
-    let a = c.find_or_add-placed in
-    made_cut c.requires.store c.args.e c.requires.failed_bound c.requires.sound_bound a.new.0 a.new.1.0 a.new.1.1.0 a.result a.ensures c.as_built.ensures c.if-failed-eq0.false
+    made_cut c.requires.store c.args.e c.requires.failed_bound c.requires.sound_bound c.find_or_add-placed.new.nodes c.find_or_add-placed.new.heads c.find_or_add-placed.new.next c.find_or_add-placed.result c.find_or_add-placed.ensures c.as_built.ensures c.if-failed-eq0.false

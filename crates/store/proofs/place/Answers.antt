@@ -8,11 +8,9 @@ use Rattle.store.proofs.place.Goals as goal
 
 pub overflow_mul-s : goal.overflow_mul-s
 overflow_mul-s c =
-    let m = c.mixed in
-    let q = scaled_fits m.result (length c.args.memo.now) m.ensures.1 c.requires.few in search (rules, q)
+    let q = scaled_fits c.mixed.result (length c.args.memo.now) c.mixed.ensures.1 c.requires.few in search (rules, q)
 
 pub returns : goal.returns
 returns c =
-    let m = c.mixed in
     let memo = c.args.memo.now in
-    place_at c.requires (scaled_below m.result (length memo) (length memo) m.ensures.1 (omega arith) (omega arith))
+    place_at c.requires (scaled_below c.mixed.result (length memo) (length memo) c.mixed.ensures.1 (omega arith) (omega arith))

@@ -5,7 +5,7 @@ use Rattle.gates.proofs.Rows.{names_event, names_gate, names_failed, names_sound
 use Rattle.gates.proofs.inputs.input_node.Goals as goal
 
 pub returns-then-code-lt-GATES_FROM : goal.returns-then-code-lt-GATES_FROM
-returns-then-code-lt-GATES_FROM c = names_event _ c.args.code c.args.nodes.now c.args.count c.event_node.new.0 c.event_node.new.1.0 c.event_node.new.1.1.0 c.event_node.result c.if-code-lt-GATES_FROM.true c.event_node.ensures
+returns-then-code-lt-GATES_FROM c = names_event _ c.args.code c.args.nodes.now c.args.count c.event_node.new.nodes c.event_node.new.heads c.event_node.new.next c.event_node.result c.if-code-lt-GATES_FROM.true c.event_node.ensures
 
 pub bounds-gates-g : goal.bounds-gates-g
 bounds-gates-g c = omega (arith, c.requires.code_bound c.if-code-lt-FAILED_FROM.true)

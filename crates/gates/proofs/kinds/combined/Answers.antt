@@ -16,7 +16,7 @@ joined-requires c =
     }
 
 pub returns-then-kind-eq-AND : goal.returns-then-kind-eq-AND
-returns-then-kind-eq-AND c = gains_and c.args.kind c.args.k (map (den c.args.nodes.now) c.args.xs.now) c.args.nodes.now c.args.count c.joined.new.0 c.joined.new.1.0 c.joined.new.1.1.0 c.joined.new.1.1.1.0 c.joined.result c.if-kind-eq-AND.true c.joined.ensures
+returns-then-kind-eq-AND c = gains_and c.args.kind c.args.k (map (den c.args.nodes.now) c.args.xs.now) c.args.nodes.now c.args.count c.joined.new.nodes c.joined.new.heads c.joined.new.next c.joined.new.memo c.joined.result c.if-kind-eq-AND.true c.joined.ensures
 
 pub joined-requires-then-kind-eq-OR : goal.joined-requires-then-kind-eq-OR
 joined-requires-then-kind-eq-OR c =
@@ -28,7 +28,7 @@ joined-requires-then-kind-eq-OR c =
     }
 
 pub returns-then-kind-eq-OR : goal.returns-then-kind-eq-OR
-returns-then-kind-eq-OR c = gains_or c.args.kind c.args.k (map (den c.args.nodes.now) c.args.xs.now) c.args.nodes.now c.args.count c.joined-then-kind-eq-OR.new.0 c.joined-then-kind-eq-OR.new.1.0 c.joined-then-kind-eq-OR.new.1.1.0 c.joined-then-kind-eq-OR.new.1.1.1.0 c.joined-then-kind-eq-OR.result c.if-kind-eq-AND.false c.if-kind-eq-OR.true c.joined-then-kind-eq-OR.ensures
+returns-then-kind-eq-OR c = gains_or c.args.kind c.args.k (map (den c.args.nodes.now) c.args.xs.now) c.args.nodes.now c.args.count c.joined-then-kind-eq-OR.new.nodes c.joined-then-kind-eq-OR.new.heads c.joined-then-kind-eq-OR.new.next c.joined-then-kind-eq-OR.new.memo c.joined-then-kind-eq-OR.result c.if-kind-eq-AND.false c.if-kind-eq-OR.true c.joined-then-kind-eq-OR.ensures
 
 pub at_least-requires : goal.at_least-requires
 at_least-requires c =
@@ -39,4 +39,4 @@ at_least-requires c =
     }
 
 pub returns : goal.returns
-returns c = gains_least c.args.kind c.args.k (map (den c.args.nodes.now) c.args.xs.now) c.args.nodes.now c.args.count c.at_least.new.0 c.at_least.new.1.0 c.at_least.new.1.1.0 c.at_least.new.1.1.1.0 c.at_least.result c.if-kind-eq-AND.false c.if-kind-eq-OR.false c.at_least.ensures
+returns c = gains_least c.args.kind c.args.k (map (den c.args.nodes.now) c.args.xs.now) c.args.nodes.now c.args.count c.at_least.new.nodes c.at_least.new.heads c.at_least.new.next c.at_least.new.memo c.at_least.result c.if-kind-eq-AND.false c.if-kind-eq-OR.false c.at_least.ensures

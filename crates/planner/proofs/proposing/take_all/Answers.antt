@@ -37,7 +37,7 @@ pub loop-counts-smaller : goal.loop-counts-smaller
 loop-counts-smaller c = going_less c.loop-counts.invariant.1 c.loop-counts-test.true c.add.ensures
 
 pub loop-counts-preserved : goal.loop-counts-preserved
-loop-counts-preserved c = (c.add.auto.ws ∙ c.loop-counts.invariant.0, going_next c.loop-counts.invariant.1 c.loop-counts-test.true c.add.ensures (tallied_of c.holding-t.ensures c.requires.diagram (enough_still c.requires.enough c.loop-counts.invariant.2 c.loop-counts.invariant.3 c.loop-counts.invariant.4) (not_beyond (going_within c.loop-counts.invariant.1 c.loop-counts-test.true c.add.ensures)) (fits_still (family c.args.cuts.now c.args.root) (set_of c.add.new.0) c.requires.fits)).counts c.most-e-in-loop-counts.ensures, c.holding-t.auto.counts ∙ c.loop-counts.invariant.2, area_kept c.requires.zero_below c.loop-counts.invariant.3 (tallied_of c.holding-t.ensures c.requires.diagram (enough_still c.requires.enough c.loop-counts.invariant.2 c.loop-counts.invariant.3 c.loop-counts.invariant.4) (not_beyond (going_within c.loop-counts.invariant.1 c.loop-counts-test.true c.add.ensures)) (fits_still (family c.args.cuts.now c.args.root) (set_of c.add.new.0) c.requires.fits)).below, area_kept c.requires.zero_ways c.loop-counts.invariant.4 (tallied_of c.holding-t.ensures c.requires.diagram (enough_still c.requires.enough c.loop-counts.invariant.2 c.loop-counts.invariant.3 c.loop-counts.invariant.4) (not_beyond (going_within c.loop-counts.invariant.1 c.loop-counts-test.true c.add.ensures)) (fits_still (family c.args.cuts.now c.args.root) (set_of c.add.new.0) c.requires.fits)).ways)
+loop-counts-preserved c = (c.add.auto.ws ∙ c.loop-counts.invariant.0, going_next c.loop-counts.invariant.1 c.loop-counts-test.true c.add.ensures (tallied_of c.holding-t.ensures c.requires.diagram (enough_still c.requires.enough c.loop-counts.invariant.2 c.loop-counts.invariant.3 c.loop-counts.invariant.4) (not_beyond (going_within c.loop-counts.invariant.1 c.loop-counts-test.true c.add.ensures)) (fits_still (family c.args.cuts.now c.args.root) (set_of c.add.new.ws) c.requires.fits)).counts c.most-e-in-loop-counts.ensures, c.holding-t.auto.counts ∙ c.loop-counts.invariant.2, area_kept c.requires.zero_below c.loop-counts.invariant.3 (tallied_of c.holding-t.ensures c.requires.diagram (enough_still c.requires.enough c.loop-counts.invariant.2 c.loop-counts.invariant.3 c.loop-counts.invariant.4) (not_beyond (going_within c.loop-counts.invariant.1 c.loop-counts-test.true c.add.ensures)) (fits_still (family c.args.cuts.now c.args.root) (set_of c.add.new.ws) c.requires.fits)).below, area_kept c.requires.zero_ways c.loop-counts.invariant.4 (tallied_of c.holding-t.ensures c.requires.diagram (enough_still c.requires.enough c.loop-counts.invariant.2 c.loop-counts.invariant.3 c.loop-counts.invariant.4) (not_beyond (going_within c.loop-counts.invariant.1 c.loop-counts-test.true c.add.ensures)) (fits_still (family c.args.cuts.now c.args.root) (set_of c.add.new.ws) c.requires.fits)).ways)
 
 pub shape_of-counts : goal.shape_of-counts
 shape_of-counts c = c.loop-counts.invariant.2
