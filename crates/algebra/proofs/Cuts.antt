@@ -70,7 +70,7 @@ module _ (n e : ℕ) (f s : Diagram) (h : Fit n e (node e f s)) where
   unfolding d
   in_cut S se c = (
     cut_of_part (eval f) (put e false S) (eval_put e n f false S of ∙ sym (with_e S se) ∙ c.fails) only,
-    not-true (eval s (put e false S)) (λ t. false≢true (sym (put_same e false S)
+    not_true (eval s (put e false S)) (λ t. false≢true (sym (put_same e false S)
         ∙ ap (λ v. v e) (cut_part (eval d) S (put e false S) c (part_out e S) (without_e (put e false S) (put_same e false S) ∙ t)) ∙ se)),
   )
     where
@@ -152,7 +152,7 @@ cut_below n m (node e f s) h S t =
 
     by_failed : S e ≡ true → eval s S ≡ false → Found f → Found (node e f s)
     by_failed q r (T, i, p) =
-        let spared : eval s T ≡ false = not-true (eval s T) (λ w. true≢false (sym ((fit_sound n m e f s h).mono T S p w) ∙ r)) in (
+        let spared : eval s T ≡ false = not_true (eval s T) (λ w. true≢false (sym ((fit_sound n m e f s h).mono T S p w) ∙ r)) in (
           put e true T,
           whole (put e true T) (in_left (put e true T) (map (put e true) (spares f s)) (sets_of (cuts_d s))
               (in_map (put e true) T (spares f s) (in_keep (λ S. not (eval s S)) T (sets_of (cuts_d f)) i (ap not spared)))),

@@ -51,6 +51,7 @@ module _ (S : Set) where
 
   in_any : (cs : List (List ℕ)) (c : List ℕ) → In c cs → every S c ≡ true → any_in cs S ≡ true
   unfolding any_in
+  in_any [] c k q = elim k [ ]
   in_any (d ∷ cs) c (inl e) q = or_left (every S d) (any_in cs S) (ap (every S) (sym e) ∙ q)
   in_any (d ∷ cs) c (inr k) q = or_right (every S d) (any_in cs S) (in_any cs c k q)
 

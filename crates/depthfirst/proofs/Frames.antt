@@ -1,6 +1,6 @@
 -- The open names as the work lists have them: stores to the lists, and the ring where an input is open.
 -- Assumes nothing.
-use mathlib.Core.Path.{◌≡◌, refl, sym, subst}
+use mathlib.Core.Path.{◌≡◌, ◌∙◌, ap, refl, sym, subst}
 use mathlib.Core.Logic.{inl, inr}
 use mathlib.Core.List.{List}
 use Prim.Native.Nat.{ℕ, zero, suc, ◌+◌, ◌-◌, ◌<◌, ◌≤◌}
@@ -37,14 +37,13 @@ frames_placed S I K A t q l =
 pub frames_opened : (S I : List ℕ) {M K A : List ℕ} {d y : ℕ} {M' K' A' : List ℕ} → Opened S M K A d y M' K' A' → d < length K → d < length A
     → frames S I K' A' (suc d) ≡ over y (inputs_of S I y) (frames S I K A d)
 unfolding inputs_of
-frames_opened S I {M} {K} {A} {d} {y} o k a =
-    rw (
-      o.stack,
-      o.place,
-      get_or-set_same K d y 0 k,
-      get_or-set_same A d (get_or S y 0) 0 a,
-      frames_kept S I K A (set K d y) (set A d (get_or S y 0)) d (λ i h. get_or-set_other K d i y 0 (omega arith)) (λ i h. get_or-set_other A d i (get_or S y 0) 0 (omega arith)),
-    ) refl
+frames_opened S I {M} {K} {A} {d} {y} {M'} {K'} {A'} o k a =
+    let name : get_or K' d 0 ≡ y = ap (λ (T : List ℕ). get_or T d 0) o.stack ∙ get_or-set_same K d y 0 k in
+    let place : get_or A' d 0 ≡ get_or S y 0 = ap (λ (T : List ℕ). get_or T d 0) o.place ∙ get_or-set_same A d (get_or S y 0) 0 a in
+    let kept = frames_kept S I K A K' A' d
+        (λ i h. ap (λ (T : List ℕ). get_or T i 0) o.stack ∙ get_or-set_other K d i y 0 (omega arith))
+        (λ i h. ap (λ (T : List ℕ). get_or T i 0) o.place ∙ get_or-set_other A d i (get_or S y 0) 0 (omega arith)) in
+    rw (name, place, kept) refl
 
 -- ---- an open name by its place
 

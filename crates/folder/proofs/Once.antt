@@ -108,4 +108,6 @@ module _ {bytes : List ℕ} {l l' : Lends} {C C' : List ℕ} {a : Gathered} wher
   one_tree x q = let (ts, p, c) = done_totals x q in go ts (subst (λ bs. AllPass l.memory bs ts) (whole bytes) p) c
     where
       go : (ts : List Tree) → AllPass l.memory (bytes ∷ []) ts → Totals ts C C' → (t : Tree) × Passes l.memory bytes t × ((k : ℕ) → k < sizes → get_or C' k 0 ≡ cuts_of_size t k)
+      go [] x c = elim x [ ]
+      go (t ∷ (u ∷ ts)) (p, z) c = elim z [ ]
       go (t ∷ []) (p, z) c = (t, p, λ k h. c.totals k h ∙ total_one k t)

@@ -121,16 +121,24 @@ module _ {m : Memory} {bytes : List ℕ} where
 module _ (m : Memory) where
   pub all_same : (bs : List (List ℕ)) (ts us : List Tree) → AllPass m bs ts → AllPass m bs us → ts ≡ us
   all_same [] [] [] p q = refl
+  all_same [] [] (u ∷ us) p q = elim q [ ]
+  all_same [] (t ∷ ts) us p q = elim p [ ]
+  all_same (b ∷ bs) [] us p q = elim p [ ]
+  all_same (b ∷ bs) (t ∷ ts) [] p q = elim q [ ]
   all_same (b ∷ bs) (t ∷ ts) (u ∷ us) (p, ps) (q, qs) = ap₂ ◌∷◌ (same_tree p q) (all_same bs ts us ps qs)
 
   -- one more
   pub all_more : {b : List ℕ} {t : Tree} → Passes m b t → (bs : List (List ℕ)) (ts : List Tree) → AllPass m bs ts → AllPass m (bs ++ (b ∷ [])) (ts ++ (t ∷ []))
   all_more p [] [] q = (p, tt)
+  all_more p [] (t ∷ ts) q = elim q [ ]
+  all_more p (b ∷ bs) [] q = elim q [ ]
   all_more p (b ∷ bs) (t ∷ ts) (q, qs) = (q, all_more p bs ts qs)
 
   -- each of them
   pass_at : (bs : List (List ℕ)) (ts : List Tree) → AllPass m bs ts → (i : ℕ) → i < length bs → (t : Tree) × Passes m (get_or bs i []) t
   pass_at [] [] p i h = absurd (omega arith)
+  pass_at [] (t ∷ ts) p i h = elim p [ ]
+  pass_at (b ∷ bs) [] p i h = elim p [ ]
   pass_at (b ∷ bs) (t ∷ ts) (p, ps) zero h = (t, p)
   pass_at (b ∷ bs) (t ∷ ts) (p, ps) (suc i) h = pass_at bs ts ps i (omega arith)
 

@@ -119,10 +119,10 @@ module _ {n : ℕ} {T : List ℕ} {c root : ℕ} (lent : Lent true n T c root) (
   done_of {S} {rm} {used = used} {last} {finished} s (Listing.wrote w) =
       let fit : w.written ≡ fitting n (length rm) (to_list n (den T root) begin ws) = sym (ap (fitting n (length rm)) w.whole ∙ fitting_all n (length rm) w.written w.left w.within w.full) in
       let l : Left n (den T root) (last_or (start_of begin ws) w.written) w.left = left_of n (den T root) (root_ordered lent) begin ws ok w.written w.left w.whole w.some in
-      let last_is : set_of last ≡ last_or (start_of begin ws) w.written = w.last-set ∙ ap (λ (U : Set). last_or U w.written) s in
+      let last_is : set_of last ≡ last_or (start_of begin ws) w.written = w.last_set ∙ ap (λ (U : Set). last_or U w.written) s in
       Answered.done lent ok (not_short n (length rm) (to_list n (den T root) begin ws) w.written w.left w.whole w.within w.some) (record {
         is = w.is;
-        no_place = w.no-place;
+        no_place = w.no_place;
         cuts = w.cuts ∙ ap length fit;
         long = w.long ∙ ap (λ (x : List Set). length (sets_bytes n x)) fit;
         bytes = w.bytes ∙ ap (λ (x : List Set). sets_bytes n x ++ drop used rm) fit;

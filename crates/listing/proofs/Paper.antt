@@ -20,6 +20,7 @@ use Rattle.listing.proofs.Join.{Part, part}
 
 listed_short : (n size : ℕ) (l : List Set) → Short n size l → listed n size l ≡ record { number = 14; written = fitting n size l; finished = false }
 unfolding listed fitting
+listed_short n size [] h = elim h [ ]
 listed_short n size (S ∷ l) h = rw (lt-leb (length (set_bytes n S)) size h)
 
 listed_done : (n size : ℕ) (l : List Set) → (Short n size l → ⊥) → listed n size l ≡ record { number = 0; written = fitting n size l; finished = eqb (length (fitting n size l)) (length l) }

@@ -36,7 +36,7 @@ unfolding family
 family_within {n} {T} {c} {root} lent S h = sets_beyond 0 n (den T root) S (root_ordered lent) h
 
 pub some_event_lem : {n : ℕ} {T : List ℕ} {c root : ℕ} → CutDiagram n T c root → 1 ≤ n
-some_event_lem lent = lent.some_event_lem
+some_event_lem lent = lent.some_event
 
 pub few_events : {n : ℕ} {T : List ℕ} {c root : ℕ} → CutDiagram n T c root → n ≤ limits.events
 few_events lent = lent.few_events

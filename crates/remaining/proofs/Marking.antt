@@ -25,7 +25,7 @@ use Rattle.remaining.specs.Marking.{mark, Marked, Marking, Leading, both, Follow
 
 pub at_number : {n : ℕ} {T : List ℕ} {c root : ℕ} → CutDiagram n T c root → {i : ℕ} → i < c + 2 → CutDiagram n T c i
 at_number lent h = record {
-  some_event_lem = lent.some_event_lem;
+  some_event = lent.some_event;
   few_events = lent.few_events;
   threes = lent.threes;
   short = lent.short;

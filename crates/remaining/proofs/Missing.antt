@@ -16,7 +16,7 @@ use Rattle.paper.specs.Cuts.{sets_of}
 use Rattle.paper.specs.Planner.{Apart, misses, remaining, FirstMissing, holding}
 use Rattle.algebra.proofs.Base.{eqb_or, eqb_same, put_same, put_other, three, Three, below, beyond, equal}
 use Rattle.algebra.proofs.Lists.{bool_iff, keep_append, keep_map, keep_same, keep_all, keep_none, map_in}
-use Rattle.algebra.proofs.Sets.{not-true}
+use Rattle.algebra.proofs.Sets.{not_true}
 use Rattle.remaining.specs.Recursion.{some_missing, first_in, count_missing, count_holding}
 
 -- ---- the test
@@ -51,11 +51,11 @@ some_event_lem (suc k) m S h = go (S m) refl h (some_event_lem k (suc m) S)
 module _ (n : ℕ) (K : Set) where
   -- a set that misses K has no event of K
   pub misses_at : (T : Set) → misses n K T ≡ true → (i : ℕ) → i < n → K i ≡ true → T i ≡ false
-  misses_at T h i l k = not-true (T i) (λ t. true≢false (sym (event_some n 0 (λ j. K j && T j) i (omega arith) (omega arith) (rw (k, t)))
+  misses_at T h i l k = not_true (T i) (λ t. true≢false (sym (event_some n 0 (λ j. K j && T j) i (omega arith) (omega arith) (rw (k, t)))
       ∙ not-is-true (some_event n 0 (λ j. K j && T j)) h))
 
   pub at_misses : (T : Set) → ((i : ℕ) → i < n → K i ≡ true → T i ≡ false) → misses n K T ≡ true
-  at_misses T h = ap not (not-true (some_event n 0 (λ j. K j && T j)) (λ t.
+  at_misses T h = ap not (not_true (some_event n 0 (λ j. K j && T j)) (λ t.
       let (i, x, y, z) = some_event_lem n 0 (λ j. K j && T j) t in
       let (p, q) = both_true (K i) (T i) z in
       true≢false (sym q ∙ h i (omega arith) p)))
@@ -86,7 +86,7 @@ module _ (n : ℕ) (K : Set) where
   -- ---- a set with one event more
 
   miss_in : (x : ℕ) (T : Set) → x < n → K x ≡ true → misses n K (put x true T) ≡ false
-  miss_in x T l k = not-true (misses n K (put x true T)) (λ h. true≢false (sym (put_same x true T) ∙ misses_at (put x true T) h x l k))
+  miss_in x T l k = not_true (misses n K (put x true T)) (λ h. true≢false (sym (put_same x true T) ∙ misses_at (put x true T) h x l k))
 
   miss_out : (x : ℕ) (T : Set) → K x ≡ false → misses n K (put x true T) ≡ misses n K T
   miss_out x T k = bool_iff (misses n K (put x true T)) (misses n K T)

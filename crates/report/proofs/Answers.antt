@@ -139,11 +139,11 @@ module _ {r n : ℕ} {T : List ℕ} {c root : ℕ} {A : List ℕ} (known : is_ed
       let fit : w.written ≡ fitting n (length rm) l₀ = sym (ap (fitting n (length rm)) w.whole ∙ fitting_all n (length rm) w.written w.left w.within w.full) in
       let l : Left n (keep (worth r A n) (sets_of (den T root))) (last_or (start_of begin ws) w.written) w.left =
       left_of n (keep (worth r A n) (sets_of (den T root))) (all_sorted lent r A) (all_within lent r A) begin ws ok w.written w.left (sym (started T root n r A begin ws) ∙ w.whole) w.some in
-      let last_is : set_of last ≡ last_or (start_of begin ws) w.written = w.last-set ∙ ap (λ (U : Set). last_or U w.written) s in
+      let last_is : set_of last ≡ last_or (start_of begin ws) w.written = w.last_set ∙ ap (λ (U : Set). last_or U w.written) s in
       Answered.done known lent enough chances ok (not_short n (length rm) l₀ w.written w.left w.whole w.within w.some) (record {
         names = e0 w.is;
         is = w.is;
-        no_place = w.no-place;
+        no_place = w.no_place;
         cuts = w.cuts ∙ ap length fit;
         long = w.long ∙ ap (λ (x : List Set). length (sets_bytes n x)) fit;
         bytes = w.bytes ∙ ap (λ (x : List Set). sets_bytes n x ++ drop used rm) fit;

@@ -16,7 +16,7 @@ use Rattle.paper.specs.Order.{rest}
 use Rattle.algebra.specs.Reports.{over}
 use Rattle.sets.specs.Words.{set_of}
 use Rattle.algebra.proofs.Base.{put_same, put_other}
-use Rattle.algebra.proofs.Lists.{in_append, map_in, keep_append, keep_none, map-append, map_map, map_same}
+use Rattle.algebra.proofs.Lists.{in_append, map_in, keep_append, keep_none, map_append, map_map, map_same}
 use Rattle.algebra.proofs.Sets.{not_true, set_ext}
 use Rattle.algebra.proofs.Reports.{over_put, over_none}
 use Rattle.tables.specs.Table.{event_of, failed_of, sound_of, den}
@@ -46,7 +46,7 @@ around_split T (i ∷ p) x =
     let Q : Set = along T p in
     let R : List Set = sets_of (den T (sound_of T i)) in
     ap (λ y. map (put e true) y ++ R) (around_split T p x)
-    ∙ ap (λ y. y ++ R) (map-append (put e true) (map (over Q) x) (around T p []))
+    ∙ ap (λ y. y ++ R) (map_append (put e true) (map (over Q) x) (around T p []))
     ∙ append_assoc (map (put e true) (map (over Q) x)) (map (put e true) (around T p [])) R
     ∙ ap (λ y. y ++ (map (put e true) (around T p []) ++ R)) (sym (map_map (put e true) (over Q) x) ∙ map_same (λ U. put e true (over Q U)) (over (put e true Q)) x (λ U _. put_over e Q U))
 
@@ -220,7 +220,7 @@ module _ {R : Set → Bool} {n : ℕ} {T : List ℕ} {c : ℕ} {P : List ℕ} {d
           let F : List Set = sets_of (den T (failed_of T at)) in
           let B : List Set = sets_of (den T (sound_of T at)) in
           ap (λ x. keep R (map (over Q) x)) (sets_node w.path.lent two)
-          ∙ ap (keep R) (map-append (over Q) (map (put e true) F) B)
+          ∙ ap (keep R) (map_append (over Q) (map (put e true) F) B)
           ∙ keep_append R (map (over Q) (map (put e true) F)) (map (over Q) B)
           ∙ ap (λ y. y ++ keep R (map (over Q) B)) (ap (keep R) (sym (map_map (over Q) (put e true) F) ∙ map_same (λ U. over Q (put e true U)) (over (put e true Q)) F (λ U _. over_put Q U e)) ∙ no_hope R T (put e true Q) (failed_of T at) none_failed)
           ∙ ap (λ k. keep R (map (over Q) (sets_of (den T k)))) (sym qb)

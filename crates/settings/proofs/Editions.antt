@@ -82,11 +82,11 @@ forced_below n asked bytes e q l = none_free asked bytes e (λ x k a b. omega (a
 
 -- ---- later editions
 
-added_same : (s : State) (asked e : ℕ) (rs more : List Entry) → Added asked rs more → setting_from s asked e rs ≡ setting_from s asked e more
-added_same s asked e rs more none = refl
-added_same s asked e rs more (same r {rs = xs} {more = ys} a) = added_same (cond (speaks asked e r) (state_of r.state) s) asked e xs ys a
-added_same s asked e rs more (above r {rs = xs} {more = ys} l a) =
-    added_same s asked e xs ys a ∙ ap (λ b. setting_from (cond b (state_of r.state) s) asked e ys) (sym (silent_above asked e r l))
+added_same : (asked : ℕ) (s : State) (e : ℕ) (rs more : List Entry) → Added asked rs more → setting_from s asked e rs ≡ setting_from s asked e more
+added_same asked s e rs more none = refl
+added_same asked s e rs more (same r {rs = xs} {more = ys} a) = added_same asked (cond (speaks asked e r) (state_of r.state) s) e xs ys a
+added_same asked s e rs more (above r {rs = xs} {more = ys} l a) =
+    added_same asked s e xs ys a ∙ ap (λ b. setting_from (cond b (state_of r.state) s) asked e ys) (sym (silent_above asked e r l))
 
 earlier : (n before least : ℕ) (rs : List Entry) → least ≤ before → Valid n before rs → Valid n least rs
 earlier n before least [] h w = tt
@@ -101,7 +101,7 @@ added_valid n asked before rs more (above r {rs = xs} {more = ys} l a) w = earli
 -- AN EDITION'S SETTINGS stay when records of editions above it are added, wherever they stand
 pub settings_stay : (asked : ℕ) (old new : List ℕ) → Added asked (entries old) (entries new) → settings_of asked old ≡ settings_of asked new
 unfolding settings_of
-settings_stay asked old new a = fun_ext (λ e. added_same free asked e (entries old) (entries new) a)
+settings_stay asked old new a = fun_ext (λ e. added_same asked free e (entries old) (entries new) a)
 
 -- so does the judgement: the larger store was accepted, and so is the smaller
 pub judgement_stays : (n asked : ℕ) (old new : List ℕ) → torn old ≡ false → Added asked (entries old) (entries new) → judge_store n new ≡ accepted → judge_store n old ≡ accepted

@@ -113,6 +113,7 @@ gone_kept (c ∷ ls) ms = go (has_cut ms c) refl (gone_kept ls ms)
 -- none gone: each stands in the other
 gone_in : (ls ms : List (List ℕ)) → gone_of ls ms ≡ 0 → (d : List ℕ) → In d ls → In d ms
 unfolding gone_of
+gone_in [] ms z d k = elim k [ ]
 gone_in (c ∷ ls) ms z d k = go (has_cut ms c) refl k (λ q. gone_in ls ms q d)
   where
     go : (b : Bool) → has_cut ms c ≡ b → In d (c ∷ ls) → (gone_of ls ms ≡ 0 → In d ls → In d ms) → In d ms

@@ -87,6 +87,7 @@ among_in (d ∷ l) c h = go (either (same c d) (among l c) h) (among_in l c)
 
 in_among : (l : List (List ℕ)) (c : List ℕ) → In c l → among l c ≡ true
 unfolding among
+in_among [] c k = elim k [ ]
 in_among (d ∷ l) c (inl e) = or_left (same c d) (among l c) (subst (λ (x : List ℕ). same c x ≡ true) e (same_self c))
 in_among (d ∷ l) c (inr k) = or_right (same c d) (among l c) (in_among l c k)
 

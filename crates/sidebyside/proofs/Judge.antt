@@ -37,6 +37,7 @@ or_right true b h = refl
 or_right false b h = h
 
 every_in : {A : Type 0} (p : A → Bool) (l : List A) → every p l ≡ true → (x : A) → In x l → p x ≡ true
+every_in p [] h x k = elim k [ ]
 every_in p (y ∷ l) h x (inl e) = ap p e ∙ (and_both (p y) (every p l) h).0
 every_in p (y ∷ l) h x (inr k) = every_in p l (and_both (p y) (every p l) h).1 x k
 

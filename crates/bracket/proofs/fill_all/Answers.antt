@@ -10,32 +10,6 @@ use Rattle.bracket.specs.Pass.{number_in, Filled, Ready}
 use Rattle.bracket.proofs.Pass.{ready, filled_start, filled_next}
 use Rattle.bracket.proofs.fill_all.Goals as goal
 
--- one turn: what was read of the node and its chance
-module _ (c : goal.After-wide-a) where
-  abbrev at : goal.Start
-  at = c.before.before.before.before.before.before.before.before.before.before.before
-
-  abbrev w : goal.At-loop-i
-  w = c.before.before.before.before.before.before
-
-  module _ (r : ℕ) (small : r < billion) (W : List ℕ) (long : at.args.count ≤ length W) (fill : Filled r at.args.chances.now at.args.nodes.now W w.loop.i) where
-    can : Ready W w.loop.i c.failed_of-f.result c.sound_of-s.result c.wide-a.result r
-    can =
-        ready at.pre.0 r small c.event_of-e.ensures c.failed_of-f.ensures c.sound_of-s.ensures c.wide-a.ensures
-        w.loop.inv.0 c.loop-i-test.true long fill
-
-    more : (Q : List ℕ) → Q ≡ set W (w.loop.i - 2) ((c.wide-a.result * number_in W c.failed_of-f.result + (billion - c.wide-a.result) * number_in W c.sound_of-s.result + r) / billion)
-        → Filled r at.args.chances.now at.args.nodes.now Q (w.loop.i + 1)
-    more Q =
-        filled_next at.pre.0 r small c.event_of-e.ensures c.failed_of-f.ensures c.sound_of-s.ensures c.wide-a.ensures
-        w.loop.inv.0 c.loop-i-test.true long fill
-
-low : (c : goal.After-event_of-e) → c.event_of-e.result < c.args.n
-low c =
-    let s = c.before.before.before.before.before.before.before in
-    let h = (lent_node s.requires.0.lent {i = c.loop-i.i} (omega arith) (omega arith)).event in
-    omega (arith, c.event_of-e.ensures)
-
 pub loop-i-init : goal.loop-i-init
 loop-i-init c = (
   omega arith,
@@ -59,20 +33,21 @@ pub sound_of-s-requires : goal.sound_of-s-requires
 sound_of-s-requires c = omega (arith, c.requires.0.lent.fits, c.loop-i-test.true)
 
 pub offset_bounds-chances-e : goal.offset_bounds-chances-e
-offset_bounds-chances-e c = let h = low c.before.before in omega (arith, c.requires.0.enough, c.well_formed)
+offset_bounds-chances-e c = let h = (lent_node c.requires.0.lent {i = c.loop-i.i} (omega arith) (omega arith)).event in omega (arith, h, c.event_of-e.ensures, c.requires.0.enough, c.well_formed)
 
 pub bounds-chances-e : goal.bounds-chances-e
-bounds-chances-e c = let h = low c.before.before.before in omega (arith, c.requires.0.enough)
+bounds-chances-e c = let h = (lent_node c.requires.0.lent {i = c.loop-i.i} (omega arith) (omega arith)).event in omega (arith, h, c.event_of-e.ensures, c.requires.0.enough)
 
 pub wide-a-requires : goal.wide-a-requires
 wide-a-requires c = tt
 
 pub fill_node-requires : goal.fill_node-requires
-fill_node-requires c = can c.before 0 (omega arith) c.loop-i.lows (omega (arith, c.loop-i.invariant.2, (at c.before).requires.1)) c.loop-i.invariant.4
+fill_node-requires c = ready c.requires.0 0 (omega arith) c.event_of-e.ensures c.failed_of-f.ensures c.sound_of-s.ensures c.wide-a.ensures
+    c.loop-i.invariant.0 c.loop-i-test.true (omega (arith, c.loop-i.invariant.2, c.requires.1)) c.loop-i.invariant.4
 
 pub fill_node-requires-in-loop-i : goal.fill_node-requires-in-loop-i
-fill_node-requires-in-loop-i c =
-    can c.before.before.before.before.before (billion - 1) (omega arith) c.loop-i.highs (omega (arith, c.loop-i.invariant.3, (at c.before.before.before.before.before).requires.2)) c.loop-i.invariant.5
+fill_node-requires-in-loop-i c = ready c.requires.0 (billion - 1) (omega arith) c.event_of-e.ensures c.failed_of-f.ensures c.sound_of-s.ensures c.wide-a.ensures
+    c.loop-i.invariant.0 c.loop-i-test.true (omega (arith, c.loop-i.invariant.3, c.requires.2)) c.loop-i.invariant.5
 
 pub overflow_add-i : goal.overflow_add-i
 overflow_add-i c =
@@ -84,14 +59,15 @@ loop-i-smaller c = omega (arith, c.loop-i-test.true)
 
 pub loop-i-preserved : goal.loop-i-preserved
 loop-i-preserved c =
-    let s = at c.before.before.before.before.before.before.before.before in
     let t = c.loop-i-test.true in (
       omega arith,
       omega arith,
       c.fill_node.auto.work ∙ c.loop-i.invariant.2,
       c.fill_node-in-loop-i.auto.work ∙ c.loop-i.invariant.3,
-      more c.before.before.before.before.before.before.before.before 0 (omega arith) c.loop-i.lows (omega (arith, c.loop-i.invariant.2, s.pre.1)) c.loop-i.invariant.4 c.fill_node.new.work c.fill_node.ensures,
-      more c.before.before.before.before.before.before.before.before (billion - 1) (omega arith) c.loop-i.highs (omega (arith, c.loop-i.invariant.3, s.pre.2)) c.loop-i.invariant.5 c.fill_node-in-loop-i.new.work c.fill_node-in-loop-i.ensures,
+      filled_next c.requires.0 0 (omega arith) c.event_of-e.ensures c.failed_of-f.ensures c.sound_of-s.ensures c.wide-a.ensures
+    c.loop-i.invariant.0 c.loop-i-test.true (omega (arith, c.loop-i.invariant.2, c.requires.1)) c.loop-i.invariant.4 c.fill_node.ensures,
+      filled_next c.requires.0 (billion - 1) (omega arith) c.event_of-e.ensures c.failed_of-f.ensures c.sound_of-s.ensures c.wide-a.ensures
+    c.loop-i.invariant.0 c.loop-i-test.true (omega (arith, c.loop-i.invariant.3, c.requires.2)) c.loop-i.invariant.5 c.fill_node-in-loop-i.ensures,
     )
 
 pub shape_of-lows : goal.shape_of-lows

@@ -39,7 +39,7 @@ pub make_z-requires : goal.make_z-requires
 make_z-requires c =
     let taken = rw c.in-Done.is at c.without.ensures in
     let both = made_ready c.requires taken in
-    record { store = both.0; failed_bound = both.1; sound_bound = both.2 }
+    record { store = both.0; failed_bound = both.1.0; sound_bound = both.1.1 }
 
 pub returns-in-Short : goal.returns-in-Short
 returns-in-Short c =

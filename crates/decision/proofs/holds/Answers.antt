@@ -7,8 +7,5 @@ use Rattle.sets.specs.Words.{words}
 use Rattle.decision.proofs.Looking.{holds_lowest}
 use Rattle.decision.proofs.holds.Goals as goal
 
-long : (c : goal.After-lowest-arg-1) → length c.args.set.now ≡ words
-long c = search rules
-
 pub returns : goal.returns
-returns c = holds_lowest c.lowest.ensures (omega (arith, long c.before, c.requires))
+returns c = holds_lowest c.lowest.ensures (omega (arith, c.told-set, c.requires))

@@ -5,7 +5,7 @@ use native.Mathlib.Omega.{arith}
 use Rattle.exported.proofs.matticklet_import.Goals as goal
 
 pub fill-requires : goal.fill-requires
-fill-requires c = absurd (omega arith)
+fill-requires c = λ k l h. absurd (omega arith)
 
 pub returns : goal.returns
 returns c = (c.import-a.result, (c.import-a.ensures, (refl, c.fill.ensures)))

@@ -1,7 +1,7 @@
 -- `exported::tree_from` meets its contract. Assumes nothing.
-use Rattle.exported.proofs.Answers.{taken-from}
+use Rattle.exported.proofs.Answers.{taken_from}
 use borrow.Author.Rules.{rules}
 use Rattle.exported.proofs.tree_from.Goals as goal
 
 pub returns : goal.returns
-returns c = taken-from _ _ _ _ _ _ _ _ _ c.events_of-all.ensures
+returns c = taken_from _ _ _ _ _ _ _ _ _ c.events_of-all.ensures

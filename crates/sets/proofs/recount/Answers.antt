@@ -6,11 +6,12 @@ use lib.Count.{ones, ones-le}
 use Rattle.sets.proofs.Beside.{Counting, low_word, high_word, recount_ahead, recount_start, recount_few, recount_more, recount_end}
 use native.Mathlib.Omega.{arith}
 use Rattle.sets.proofs.recount.Goals as goal
+use Rattle.sets.proofs.recount.Goals.{After-shared_slice_known-1, After-shared_slice_known-in-loop-k-1}
 
-few : (c : goal.After-shared_slice_known-1) → ones (get_or c.args.ws.now (c.args.low / 64) 0) ≤ 64
+few : (c : After-shared_slice_known-1) → ones (get_or c.args.ws.now (c.args.low / 64) 0) ≤ 64
 few c = ones-le 64 _ (c.type_inv.ws (c.args.low / 64)).fits
 
-few-2 : (c : goal.After-shared_slice_known-in-loop-k-1) → ones (get_or c.args.ws.now (c.loop-k.k + 1) 0) ≤ 64
+few-2 : (c : After-shared_slice_known-in-loop-k-1) → ones (get_or c.args.ws.now (c.loop-k.k + 1) 0) ≤ 64
 few-2 c = ones-le 64 _ (c.type_inv.ws (c.loop-k.k + 1)).fits
 
 pub offset_bounds-ahead-k : goal.offset_bounds-ahead-k

@@ -6,8 +6,7 @@ use Rattle.sizes.proofs.list_reached.Goals as goal
 
 pub mark-requires : goal.mark-requires
 mark-requires c =
-    let both = c.requires in
-    record { held = both.0; root_in_bounds = both.1 }
+    record { held = c.requires.held; root_in_bounds = c.requires.root_in_bounds }
 
 pub collect-requires : goal.collect-requires
 collect-requires c =

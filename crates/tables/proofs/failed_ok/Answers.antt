@@ -14,4 +14,4 @@ pub returns-then-f-eq0 : goal.returns-then-f-eq0
 returns-then-f-eq0 c = failed_none c.args.cut c.args.n c.args.nodes.now c.args.i c.args.e c.args.f c.if-cut.true c.if-f-eq0.true
 
 pub returns : goal.returns
-returns c = failed_leaf c.args.cut c.args.n c.args.nodes.now c.args.i c.args.e c.args.f c.requires.0 (omega arith) (⊎_elim (λ w _ z. let h = w.1.left in omega arith) (λ w q. absurd (false≢true (sym w.left ∙ q))) c.if-cut.branch-raw)
+returns c = failed_leaf c.args.cut c.args.n c.args.nodes.now c.args.i c.args.e c.args.f c.requires.0 (omega arith) (⊎_elim (λ w _ z. let h = w.if-f-eq0.false in omega arith) (λ w q. absurd (false≢true (sym w.if-cut.false ∙ q))) c.if-cut.branch-raw)

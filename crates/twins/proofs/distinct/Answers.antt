@@ -23,8 +23,8 @@ overflow_add-n c = omega (arith, sifting_few c.loop-i.invariant, c.loop-i-test.t
 
 pub loop-i-preserved : goal.loop-i-preserved
 loop-i-preserved c = ⊎_elim
-    (λ w. sifting_new c.loop-i.invariant c.loop-i-test.true (sym c.stands.ensures ∙ not-true _ w.0.taken) c.requires.inputs_len_bound w.1 w.2)
-    (λ w. sifting_twin c.loop-i.invariant c.loop-i-test.true (sym c.stands.ensures ∙ not-false _ w.0.left) w.1 w.2)
+    (λ w. sifting_new c.loop-i.invariant c.loop-i-test.true (sym c.stands.ensures ∙ not-true _ w.if-not-stands.true-raw) c.requires.inputs_len_bound w.out-is w.n-is)
+    (λ w. sifting_twin c.loop-i.invariant c.loop-i-test.true (sym c.stands.ensures ∙ not-false _ w.if-not-stands.false-raw) w.out-is w.n-is)
     c.if-not-stands.branch-raw
 
 pub returns : goal.returns

@@ -104,7 +104,7 @@ shape_of-path c = c.loop-node.invariant.1
 pub returns : goal.returns
 returns c =
     let a = c.loop-node.invariant.0 in let wide = wide_enough a.path c.args.s.now c.requires.1 in (
-      spotted_as (⊎_elim (λ t. stop_end a wide t.1.ensures t.2.left) (λ t. let z = t.left in stop_zero a (omega arith)) c.if-node-eq1.branch-raw) c.climb.ensures.0,
+      spotted_as (⊎_elim (λ t. stop_end a wide t.lowest-low-then-node-eq1.ensures t.if-low-n.false) (λ t. let z = t.if-node-eq1.false in stop_zero a (omega arith)) c.if-node-eq1.branch-raw) c.climb.ensures.0,
       c.climb.ensures.1,
       c.climb.ensures.2,
     )

@@ -1,7 +1,7 @@
 -- `equations::answering::climbed` meets its contract. Assumes nothing.
 use borrow.Author.Rules.{rules}
 use mathlib.Core.Path.{◌∙◌}
-use Rattle.depthfirst.proofs.Answers.{no-ring-after}
+use Rattle.depthfirst.proofs.Answers.{no_ring_after}
 use Rattle.equations.proofs.Knowing.{room_kept}
 use Rattle.equations.proofs.answering.climbed.Goals as goal
 
@@ -22,7 +22,7 @@ grown-requires c =
     }
 
 pub returns-in-Back : goal.returns-in-Back
-returns-in-Back c = absurd (no-ring-after c.requires.known.arrays c.requires.all_in_order (rw c.in-Back.is at c.walk-w.ensures))
+returns-in-Back c = absurd (no_ring_after c.requires.known.arrays c.requires.all_in_order (rw c.in-Back.is at c.walk-w.ensures))
 
 pub shape_of-marks-in-Done : goal.shape_of-marks-in-Done
 shape_of-marks-in-Done c = c.grown.auto.kinds ∙ c.walk-w.auto.mark

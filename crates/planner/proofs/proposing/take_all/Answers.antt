@@ -6,14 +6,14 @@ use lib.ListN.{length}
 use Rattle.sets.specs.Words.{words, set_of}
 use Rattle.sets.proofs.Words.{empty_none}
 use Rattle.remaining.specs.Families.{family}
-use Rattle.remaining.proofs.Answering.{some_event, few_events}
+use Rattle.remaining.proofs.Answering.{some_event_lem, few_events}
 use Rattle.planner.proofs.Planning.{outside}
 use Rattle.planner.proofs.Checking.{area_kept}
 use Rattle.planner.proofs.Taking.{Going, going_start, going_less, going_within, going_next, going_end, not_beyond, fits_still, enough_still, tallied_of}
 use Rattle.planner.proofs.proposing.take_all.Goals as goal
 
 pub most-e-requires : goal.most-e-requires
-most-e-requires c = (some_event c.requires.diagram, c.requires.enough.counts)
+most-e-requires c = (some_event_lem c.requires.diagram, c.requires.enough.counts)
 
 pub loop-counts-init : goal.loop-counts-init
 loop-counts-init c = (ap length c.empty-set.ensures, going_start (ap set_of c.empty-set.ensures ∙ empty_none words) c.requires.counts c.most-e.ensures, refl, refl, refl)
@@ -31,7 +31,7 @@ pub add-requires : goal.add-requires
 add-requires c = omega (arith, c.loop-counts.invariant.0, c.loop-counts.invariant.1.best.event, few_events c.requires.diagram)
 
 pub most-e-requires-in-loop-counts : goal.most-e-requires-in-loop-counts
-most-e-requires-in-loop-counts c = (some_event c.requires.diagram, omega (arith, c.holding-t.auto.counts, c.loop-counts.invariant.2, c.requires.enough.counts))
+most-e-requires-in-loop-counts c = (some_event_lem c.requires.diagram, omega (arith, c.holding-t.auto.counts, c.loop-counts.invariant.2, c.requires.enough.counts))
 
 pub loop-counts-smaller : goal.loop-counts-smaller
 loop-counts-smaller c = going_less c.loop-counts.invariant.1 c.loop-counts-test.true c.add.ensures

@@ -6,7 +6,7 @@ use lib.ListN.{length}
 use Rattle.sets.specs.Words.{words, set_of}
 use Rattle.sets.proofs.Words.{empty_none}
 use Rattle.remaining.specs.Families.{family}
-use Rattle.remaining.proofs.Answering.{some_event, few_events}
+use Rattle.remaining.proofs.Answering.{some_event_lem, few_events}
 use Rattle.planner.proofs.Planning.{outside}
 use Rattle.planner.proofs.Checking.{area_kept}
 use Rattle.planner.proofs.Taking.{Going, going_start, going_less, going_within, going_next, going_end, not_beyond, fits_still, enough_still, tallied_of}

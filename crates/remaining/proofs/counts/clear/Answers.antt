@@ -7,8 +7,9 @@ use lib.ListN.{length, set, drop, replicate}
 use lib.ListN.{length-append, length-replicate, length-drop, drop_of_length-le}
 use borrow.Author.Fill.{fill_none, fill_more}
 use Rattle.remaining.proofs.counts.clear.Goals as goal
+use Rattle.remaining.proofs.counts.clear.Goals.{At-loop-i}
 
-long : (c : goal.At-loop-i) → length c.loop-i.work ≡ length c.args.work.now
+long : (c : At-loop-i) → length c.loop-i.work ≡ length c.args.work.now
 long c = ap length c.loop-i.invariant.1 ∙ simp (length-append, length-replicate, length-drop) (omega arith)
 
 pub loop-i-init : goal.loop-i-init
