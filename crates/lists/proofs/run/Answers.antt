@@ -9,7 +9,7 @@ use lib.Seq.{length-take-le}
 use Rattle.lists.proofs.run.Goals as goal
 
 pub slice_bounds-answer-end : goal.slice_bounds-answer-end
-slice_bounds-answer-end c = let h : c.number-len.result.value ≤ length c.read_table-next.new.1.1.1.0 = omega (arith, c.read_table-next.auto.table, c.if-long-gt-MOST.false) in sym (length-take-le c.number-len.result.value c.read_table-next.new.1.1.1.0 h)
+slice_bounds-answer-end g c = let h : c.number-len.result.value ≤ length c.read_table-next.new.table = omega (arith, c.read_table-next.auto.table, c.if-long-gt-MOST.false) in sym (length-take-le c.number-len.result.value c.read_table-next.new.table h)
 
 pub slice_bounds-answer-end-2 : goal.slice_bounds-answer-end-2
-slice_bounds-answer-end-2 c = sym (length-take-le c.number-room.result.value (replicate 1024 170) c.if-wide-gt-MOST.false)
+slice_bounds-answer-end-2 g c = sym (length-take-le c.number-room.result.value (replicate 1024 170) c.if-wide-gt-MOST.false)

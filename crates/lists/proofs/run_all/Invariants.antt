@@ -4,7 +4,7 @@ use Prim.Native.Nat.{◌-◌, ◌≤◌}
 use Rattle.lists.proofs.run_all.Given as goal
 
 abbrev pub invariant-loop-j : goal.invariant-loop-j
-invariant-loop-j l = l.j ≤ l.j-end
+invariant-loop-j g l = l.j ≤ l.j-end
 
 abbrev pub decreases-loop-j : goal.decreases-loop-j
-decreases-loop-j l = l.j-end - l.j
+decreases-loop-j g l = l.j-end - l.j

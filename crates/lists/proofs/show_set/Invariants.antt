@@ -7,7 +7,7 @@ use Rattle.sets.proofs.Words.{lowest_on}
 use Rattle.lists.proofs.show_set.Given as goal
 
 abbrev pub invariant-loop-i : goal.invariant-loop-i
-invariant-loop-i l = l.i ≤ room l.set
+invariant-loop-i g l = l.i ≤ room l.set
 
 abbrev pub decreases-loop-i : goal.decreases-loop-i
-decreases-loop-i l = room l.set - l.i
+decreases-loop-i g l = room l.set - l.i

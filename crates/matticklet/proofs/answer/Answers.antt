@@ -5,4 +5,4 @@ use Rattle.followup.proofs.Held.{held}
 use Rattle.matticklet.proofs.answer.Goals as goal
 
 pub report-requires : goal.report-requires
-report-requires c = held _ c.read-r.ensures.whole c.analyse-a.ensures (omega arith)
+report-requires g c = held _ c.read-r.ensures.whole c.analyse-a.ensures (omega arith)

@@ -6,4 +6,4 @@ use borrow.Author.Rules.{rules}
 use Rattle.reading.proofs.vector.Goals as goal
 
 pub slice_bounds-report-end : goal.slice_bounds-report-end
-slice_bounds-report-end c = sym (length-take-le _ _ c.parse-n.ensures)
+slice_bounds-report-end g c = sym (length-take-le _ _ c.parse-n.ensures)

@@ -8,23 +8,23 @@ use Rattle.listing.specs.Answers.{GoodStart}
 use Rattle.matticklet.proofs.pages.say_cuts.Goals as goal
 
 pub loop-text-init : goal.loop-text-init
-loop-text-init c = λ z. absurd (true≢false z)
+loop-text-init g c = λ z. absurd (true≢false z)
 
 pub page-p-requires : goal.page-p-requires
-page-p-requires c =
+page-p-requires g c =
     record {
       lent = c.requires;
       good_start = c.loop-text.invariant;
     }
 
 pub slice_bounds-text-end : goal.slice_bounds-text-end
-slice_bounds-text-end c = c.page-p.ensures.lines.0.0
+slice_bounds-text-end g c = c.page-p.ensures.lines.0.0
 
 pub slice_bounds-write_all-end : goal.slice_bounds-write_all-end
-slice_bounds-write_all-end c = c.page-p.ensures.lines.0.1
+slice_bounds-write_all-end g c = c.page-p.ensures.lines.0.1
 
 pub loop-text-smaller : goal.loop-text-smaller
-loop-text-smaller c = c.page-p.ensures.fewer c.if-p.false
+loop-text-smaller g c = c.page-p.ensures.fewer c.if-p.false
 
 pub loop-text-preserved : goal.loop-text-preserved
-loop-text-preserved c = c.page-p.ensures.within
+loop-text-preserved g c = c.page-p.ensures.within

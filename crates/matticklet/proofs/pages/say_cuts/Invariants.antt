@@ -8,7 +8,7 @@ use Rattle.listing.specs.Answers.{GoodStart}
 use Rattle.matticklet.proofs.pages.say_cuts.Given as goal
 
 abbrev pub invariant-loop-text : goal.invariant-loop-text
-invariant-loop-text l = GoodStart l.events l.begin l.s
+invariant-loop-text g l = GoodStart l.events l.begin l.s
 
 abbrev pub decreases-loop-text : goal.decreases-loop-text
-decreases-loop-text l = length (to_list l.events (den l.cuts l.root) l.begin l.s)
+decreases-loop-text g l = length (to_list l.events (den l.cuts l.root) l.begin l.s)
