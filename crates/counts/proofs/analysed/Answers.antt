@@ -1,5 +1,5 @@
 -- `counts::analysed` meets its contract. Assumes nothing.
-use Rattle.std.proofs.Common.{arith, rules}
+use Rattle.std.proofs.Common.{arith}
 use Rattle.followup.proofs.Held.{held}
 use Rattle.counts.proofs.analysed.Goals as goal
 

@@ -1,5 +1,5 @@
 -- `counts::report` meets its contract. Assumes nothing.
-use Rattle.std.proofs.Common.{arith, rules}
+use Rattle.std.proofs.Common.{arith}
 use Rattle.counts.proofs.report.Goals as goal
 
 pub count_cuts-n-requires : goal.count_cuts-n-requires

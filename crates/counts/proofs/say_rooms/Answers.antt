@@ -1,5 +1,5 @@
 -- `counts::say_rooms` meets its contract. Assumes nothing.
-use Rattle.std.proofs.Common.{arith, rules}
+use Rattle.std.proofs.Common.{arith}
 use Rattle.counts.proofs.say_rooms.Goals as goal
 
 pub answered-requires : goal.answered-requires

@@ -1,5 +1,4 @@
 -- `lists::run_all` meets its contract. Assumes nothing.
-use borrow.Author.Rules.{rules}
 use Prim.Native.Nat.{◌-◌, ◌≤◌}
 use Rattle.lists.proofs.run_all.Given as goal
 

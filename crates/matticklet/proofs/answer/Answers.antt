@@ -1,5 +1,4 @@
 -- `matticklet::answer` meets its contract. Assumes nothing.
-use borrow.Author.Rules.{rules}
 use native.Mathlib.Omega.{arith}
 use Rattle.followup.proofs.Held.{held}
 use Rattle.matticklet.proofs.answer.Goals as goal

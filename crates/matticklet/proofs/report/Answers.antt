@@ -1,5 +1,4 @@
 -- `matticklet::report` meets its contract. Assumes nothing.
-use borrow.Author.Rules.{rules}
 use Rattle.matticklet.proofs.report.Goals as goal
 
 pub say_cuts-requires : goal.say_cuts-requires

@@ -1,5 +1,4 @@
 -- `matticklet::say_top` meets its contract. Assumes nothing.
-use borrow.Author.Rules.{rules}
 use Rattle.matticklet.proofs.say_top.Goals as goal
 
 pub top_of-n-requires : goal.top_of-n-requires

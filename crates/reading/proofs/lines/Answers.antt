@@ -1,7 +1,5 @@
 -- `reading::lines` meets its contract.
 -- Assumes nothing.
-use borrow.Author.Rules.{rules}
-use lib.ListN.{length}
 use Prim.Native.Nat.{◌-◌}
 use Rattle.reading.proofs.lines.Goals as goal
 

@@ -2,7 +2,6 @@
 -- Assumes nothing.
 use mathlib.Core.Path.{sym}
 use lib.Seq.{length-take-le}
-use borrow.Author.Rules.{rules}
 use Rattle.reading.proofs.vector.Goals as goal
 
 pub slice_bounds-report-end : goal.slice_bounds-report-end

@@ -1,10 +1,5 @@
 -- `matticklet::pages::say_cuts` meets its contract. Assumes nothing.
-use borrow.Author.Rules.{rules}
 use mathlib.Core.Bool.{true≢false}
-use lib.ListN.{length}
-use Rattle.tables.specs.Table.{den}
-use Rattle.walk.specs.After.{to_list}
-use Rattle.listing.specs.Answers.{GoodStart}
 use Rattle.matticklet.proofs.pages.say_cuts.Goals as goal
 
 pub loop-begin-init : goal.loop-begin-init

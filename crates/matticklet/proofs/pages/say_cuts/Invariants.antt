@@ -1,6 +1,4 @@
 -- `matticklet::pages::say_cuts` meets its contract. Assumes nothing.
-use borrow.Author.Rules.{rules}
-use mathlib.Core.Bool.{true≢false}
 use lib.ListN.{length}
 use Rattle.tables.specs.Table.{den}
 use Rattle.walk.specs.After.{to_list}

@@ -2,7 +2,6 @@
 -- Assumes nothing.
 use lib.ListN.{length-take, length-replicate}
 use native.Mathlib.Omega.{arith}
-use borrow.Author.Rules.{rules}
 use Rattle.reading.proofs.changes.in_room.Goals as goal
 
 pub slice_bounds-write-end : goal.slice_bounds-write-end
