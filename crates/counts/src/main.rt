@@ -3,6 +3,7 @@
 #![tactic(auto)]
 
 ghost use Rattle.std.specs.Prelude.{◌≡◌, ◌%◌, ◌^◌, ◌≤◌, true, length};
+ghost use Rattle.std.specs.Io.{ReadsAtMost};
 ghost use Rattle.paper.specs.Cuts.{sets_of};
 ghost use Rattle.tables.specs.Table.{den};
 ghost use Rattle.tables.specs.Lent.{Lent};
@@ -10,6 +11,9 @@ ghost use Rattle.followup.specs.Tops.{Held};
 
 use memory::Analysis;
 use records::Tree;
+use std::io::Read;
+use std::rt::Files;
+use std::{fs, io};
 
 // The largest tables have room for 20,000 nodes.
 const NODES: usize = 20000;
@@ -20,13 +24,13 @@ const AREA: usize = 20002;
 
 const MEMO: usize = 65536;
 
-fn say(word: &[u8], n: u64) {
-    io::write_all(1, word);
-    io::print_decimal(1, n);
+fn say(rt: &impl Print, word: &[u8], n: u64) -> io::Result<()> {
+    rt.write_all(word)?;
+    rt.print(n)
 }
 
-fn say_number(word: &[u8], n: u8) {
-    say(word, n as u64);
+fn say_number(rt: &impl Print, word: &[u8], n: u8) -> io::Result<()> {
+    say(rt, word, n as u64)
 }
 
 // How many cuts a cut diagram has, room by room; the sum wraps at 2^64.
@@ -51,6 +55,7 @@ fn count_cuts(cuts: &[u32], events: usize, count: usize, root: usize) -> u64
 
 // Says what the tables of a done analysis hold; the cuts are counted where they are few enough to be listed.
 fn report(
+    rt: &impl Print,
     tree: Tree,
     a: Analysis,
     nodes: &[u32; TABLE],
@@ -58,18 +63,18 @@ fn report(
     lows: &mut [u32; AREA],
     highs: &mut [u32; AREA],
     listed: bool,
-)
+) -> io::Result<()>
     requires { Held tree nodes.now cuts.now a }
 {
-    say(b": nodes ", a.nodes as u64);
-    say(b", cut nodes ", a.cut_nodes as u64);
+    say(rt, b": nodes ", a.nodes as u64)?;
+    say(rt, b", cut nodes ", a.cut_nodes as u64)?;
     if listed {
         let n = count_cuts(cuts, tree.event_count, a.cut_nodes, a.cut_root);
-        say(b", cuts ", n);
+        say(rt, b", cuts ", n)?;
     }
     let ends = followup::top(tree, nodes, a.nodes, a.root, lows, highs);
-    say(b", top ", ends.low);
-    say(b" ", ends.high);
+    say(rt, b", top ", ends.low)?;
+    say(rt, b" ", ends.high)
 }
 
 // The number that tables with so much room are answered.
@@ -103,23 +108,29 @@ fn answered(bytes: &[u8], room: usize, cut_room: usize) -> u8
 }
 
 // Says what tables with just enough room are answered, with room for a node less, and for a cut node less.
-fn say_rooms(bytes: &[u8], nodes: usize, cut_nodes: usize)
+fn say_rooms(rt: &impl Print, bytes: &[u8], nodes: usize, cut_nodes: usize) -> io::Result<()>
     requires { (nodes ≤ 20000) × (cut_nodes ≤ 20000) }
 {
-    say_number(b"; just enough: ", answered(bytes, nodes, cut_nodes));
+    say_number(rt, b"; just enough: ", answered(bytes, nodes, cut_nodes))?;
     if 0 < nodes {
-        say_number(b", a node less: ", answered(bytes, nodes - 1, cut_nodes));
+        say_number(
+            rt,
+            b", a node less: ",
+            answered(bytes, nodes - 1, cut_nodes),
+        )?;
     }
     if 0 < cut_nodes {
         say_number(
+            rt,
             b", a cut node less: ",
             answered(bytes, nodes, cut_nodes - 1),
-        );
+        )?;
     }
+    Ok(())
 }
 
 // Analyses a tree in the largest tables.
-fn analysed(bytes: &[u8], listed: bool) {
+fn analysed(rt: &impl Print, bytes: &[u8], listed: bool) -> io::Result<()> {
     let mut nodes = [7u32; TABLE];
     let mut cuts = [7u32; TABLE];
     let mut gates = [7u32; paper::GATES];
@@ -134,42 +145,55 @@ fn analysed(bytes: &[u8], listed: bool) {
         &mut marks, &mut own,
     );
     if a.number != 0 {
-        say_number(b": refused ", a.number);
-        return;
+        return say_number(rt, b": refused ", a.number);
     }
     let r = analyser::read(bytes);
     let tree = r.tree;
-    report(tree, a, &nodes, &cuts, &mut heads, &mut next, listed);
-    say_rooms(bytes, a.nodes, a.cut_nodes);
+    report(rt, tree, a, &nodes, &cuts, &mut heads, &mut next, listed)?;
+    say_rooms(rt, bytes, a.nodes, a.cut_nodes)
+}
+
+// Reads until the buffer is full or the input ends: how many bytes it put at the buffer's start.
+fn fill(input: &mut impl Read, buffer: &mut [u8]) -> io::Result<usize>
+    ensures { ReadsAtMost result buffer.new }
+{
+    let mut done = 0;
+    while done < buffer.len() {
+        let n = input.read(&mut buffer[done..])?;
+        if n == 0 {
+            break;
+        }
+        done += n;
+    }
+    Ok(done)
 }
 
 // The tree of that file.
-fn show(name: &[u8], listed: bool) {
+fn show(rt: &(impl Files + Print), name: &str, listed: bool) -> io::Result<()> {
     let mut bytes = [0u8; paper::BYTES];
-    let fd = os::open_read(name);
-    let n = io::read_full(fd, &mut bytes);
-    io::write_all(1, name);
-    analysed(&bytes[..n], listed);
-    io::write_all(1, b"\n");
+    let n = fill(&mut fs::open(rt, name)?, &mut bytes)?;
+    print!(rt; "{name}")?;
+    analysed(rt, &bytes[..n], listed)?;
+    println!(rt;)
 }
 
 // 32_of_64 and and_of_63_ors have more cuts than can be listed.
-fn main() {
-    show(b"case1", true);
-    show(b"case4", true);
-    show(b"case5", true);
-    show(b"one_input", true);
-    show(b"twice", true);
-    show(b"one_function", true);
-    show(b"and_of_3", true);
-    show(b"3_of_3", true);
-    show(b"or_of_3", true);
-    show(b"1_of_3", true);
-    show(b"2_of_3", true);
-    show(b"2_of_3_reversed", true);
-    show(b"and_of_64", true);
-    show(b"or_of_64", true);
-    show(b"32_of_64", false);
-    show(b"and_of_63_ors", false);
-    show(b"european1", true);
+fn main(rt: HostRuntime) -> io::Result<()> {
+    show(&rt, "case1", true)?;
+    show(&rt, "case4", true)?;
+    show(&rt, "case5", true)?;
+    show(&rt, "one_input", true)?;
+    show(&rt, "twice", true)?;
+    show(&rt, "one_function", true)?;
+    show(&rt, "and_of_3", true)?;
+    show(&rt, "3_of_3", true)?;
+    show(&rt, "or_of_3", true)?;
+    show(&rt, "1_of_3", true)?;
+    show(&rt, "2_of_3", true)?;
+    show(&rt, "2_of_3_reversed", true)?;
+    show(&rt, "and_of_64", true)?;
+    show(&rt, "or_of_64", true)?;
+    show(&rt, "32_of_64", false)?;
+    show(&rt, "and_of_63_ors", false)?;
+    show(&rt, "european1", true)
 }

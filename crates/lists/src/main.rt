@@ -4,12 +4,19 @@
 #![tactic(auto)]
 
 ghost use Rattle.std.specs.Prelude.{◌≤◌, ◌≡◌, length};
+ghost use Rattle.std.specs.Io.{ReadsAtMost};
 ghost use Rattle.sets.specs.Words.{words};
+
+use std::io;
+use std::io::Read;
 
 // What the table and the room can hold, and the byte that the room is filled with.
 const MOST: usize = 1024;
 
 const FILL: u8 = 0xAA;
+
+// The most bytes of the input.
+const INPUT: usize = 65536;
 
 // A number of the input, and the place behind it.
 #[derive(Drop)]
@@ -111,28 +118,28 @@ fn read_set(text: &[u8], from: usize, k: usize) -> Given
     Given { set, next: at }
 }
 
-fn say(n: usize) {
-    io::print_decimal(1, n as u64);
-    io::write_all(1, b" ");
+fn say(rt: &impl Print, n: usize) -> io::Result<()> {
+    print!(rt; "{n} ")
 }
 
-fn show_set(set: &[u64])
+fn show_set(rt: &impl Print, set: &[u64]) -> io::Result<()>
     requires { length set.now ≡ words }
 {
     let mut i = sets::lowest(set, 0);
     while i < sets::MOST {
-        say(i);
+        say(rt, i)?;
         i = sets::lowest(set, i + 1);
     }
+    Ok(())
 }
 
-fn show_bytes(room: &[u8], used: usize) {
+fn show_bytes(rt: &impl Print, room: &[u8], used: usize) -> io::Result<()> {
     for i in 0..room.len() {
         if i < used {
-            io::print_hex(1, small(room[i]) as u64, 2);
-            io::write_all(1, b" ");
+            print!(rt; "{:02x} ", room[i])?;
         }
     }
+    Ok(())
 }
 
 fn stays(x: u8) -> usize
@@ -154,6 +161,7 @@ fn kept(room: &[u8], used: usize) -> usize {
 
 // Makes the call and shows its answer.
 fn answer(
+    rt: &impl Print,
     nodes: &[u32],
     n: usize,
     count: usize,
@@ -161,29 +169,27 @@ fn answer(
     begin: bool,
     set: [u64; sets::WORDS],
     room: &mut [u8],
-) {
+) -> io::Result<()> {
     let r = listing::list(nodes, n, count, root, begin, set, room);
     let used = r.used;
     let last = r.last;
-    say(small(r.number));
-    say(r.count);
-    say(used);
+    say(rt, small(r.number))?;
+    say(rt, r.count)?;
+    say(rt, used)?;
     if r.finished {
-        say(1);
+        say(rt, 1)?;
     } else {
-        say(0);
+        say(rt, 0)?;
     }
-    io::write_all(1, b"| ");
-    show_set(&last);
-    io::write_all(1, b"| ");
-    show_bytes(room, used);
-    io::write_all(1, b"| ");
-    io::print_decimal(1, kept(room, used) as u64);
-    io::write_all(1, b"\n");
+    print!(rt; "| ")?;
+    show_set(rt, &last)?;
+    print!(rt; "| ")?;
+    show_bytes(rt, room, used)?;
+    println!(rt; "| {}", kept(room, used))
 }
 
 // Runs one call: the place behind its numbers.
-fn run(text: &[u8], from: usize) -> usize {
+fn run(rt: &impl Print, text: &[u8], from: usize) -> io::Result<usize> {
     let n = number(text, from);
     let count = number(text, n.next);
     let root = number(text, count.next);
@@ -199,12 +205,13 @@ fn run(text: &[u8], from: usize) -> usize {
     let wide = room.value;
     let set = given.set;
     if MOST < long {
-        return next;
+        return Ok(next);
     }
     if MOST < wide {
-        return next;
+        return Ok(next);
     }
     answer(
+        rt,
         &table[..long],
         n.value,
         count.value,
@@ -212,20 +219,36 @@ fn run(text: &[u8], from: usize) -> usize {
         begin.value == 1,
         set,
         &mut bytes[..wide],
-    );
-    next
+    )?;
+    Ok(next)
 }
 
-fn run_all(text: &[u8]) {
+fn run_all(rt: &impl Print, text: &[u8]) -> io::Result<()> {
     let calls = number(text, 0);
     let mut at = calls.next;
     for j in 0..calls.value {
-        at = run(text, at);
+        at = run(rt, text, at)?;
     }
+    Ok(())
 }
 
-fn main() {
-    let mut text = io::large_buffer();
-    let len = io::read_full(0, &mut text);
-    run_all(&text[..len]);
+// Reads until the buffer is full or the input ends: how many bytes it put at the buffer's start.
+fn fill(input: &mut impl Read, buffer: &mut [u8]) -> io::Result<usize>
+    ensures { ReadsAtMost result buffer.new }
+{
+    let mut done = 0;
+    while done < buffer.len() {
+        let n = input.read(&mut buffer[done..])?;
+        if n == 0 {
+            break;
+        }
+        done += n;
+    }
+    Ok(done)
+}
+
+fn main(rt: HostRuntime) -> io::Result<()> {
+    let mut text = [0u8; INPUT];
+    let len = fill(&mut rt.stdin(), &mut text)?;
+    run_all(&rt, &text[..len])
 }

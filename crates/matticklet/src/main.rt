@@ -1,12 +1,15 @@
 // The program: reads a tree from standard input, and writes its counts, its cuts and its top's bracket, or one line of refusal.
 #![tactic(auto)]
 
+ghost use Rattle.std.specs.Io.{ReadsAtMost};
 ghost use Rattle.text.specs.Lines.{refusal as refusalText, head as headText, top as top_text};
 ghost use Rattle.text.specs.Places.{Front};
 ghost use Rattle.followup.specs.Tops.{Priced, low_of, high_of, Held};
 
 use memory::Analysis;
 use records::Tree;
+use std::io;
+use std::io::Read;
 
 mod pages; // pages.rt: the lines of the cuts, one room after another
 
@@ -24,10 +27,10 @@ fn refusal_of(line: &mut [u8; text::ROOM], a: Analysis) -> usize
     text::refusal(line, a.number, a.place)
 }
 
-fn say_refusal(a: Analysis) {
+fn say_refusal(rt: &impl Print, a: Analysis) -> io::Result<()> {
     let mut line = [0u8; text::ROOM];
     let n = refusal_of(&mut line, a);
-    io::write_all(1, &line[..n]);
+    rt.write_all(&line[..n])
 }
 
 // The lines before the cuts: the tree's counts, and the nodes of the whole table.
@@ -37,11 +40,10 @@ fn head_of(lines: &mut [u8; text::ROOM], tree: Tree, a: Analysis) -> usize
     text::head(lines, tree.event_count, tree.gate_count, a.nodes)
 }
 
-// Whether the head could be written.
-fn say_head(tree: Tree, a: Analysis) -> bool {
+fn say_head(rt: &impl Print, tree: Tree, a: Analysis) -> io::Result<()> {
     let mut lines = [0u8; text::ROOM];
     let n = head_of(&mut lines, tree, a);
-    io::write_all(1, &lines[..n])
+    rt.write_all(&lines[..n])
 }
 
 // The line behind the cuts: the low and the high number of the analysis' root.
@@ -61,41 +63,39 @@ fn top_of(
 }
 
 fn say_top(
+    rt: &impl Print,
     tree: Tree,
     a: Analysis,
     nodes: &[u32; TABLE],
     lows: &mut [u32; AREA],
     highs: &mut [u32; AREA],
-)
+) -> io::Result<()>
     requires { Priced tree nodes.now a.nodes a.root }
 {
     let mut line = [0u8; text::ROOM];
     let n = top_of(&mut line, tree, a, nodes, lows, highs);
-    io::write_all(1, &line[..n]);
+    rt.write_all(&line[..n])
 }
 
 // Writes what the tables of a done analysis hold. The top comes only behind all cuts: a report without it is not whole.
 fn report(
+    rt: &impl Print,
     tree: Tree,
     a: Analysis,
     nodes: &[u32; TABLE],
     cuts: &[u32; TABLE],
     lows: &mut [u32; AREA],
     highs: &mut [u32; AREA],
-)
+) -> io::Result<()>
     requires { Held tree nodes.now cuts.now a }
 {
-    if !say_head(tree, a) {
-        return;
-    }
-    if !pages::say_cuts(cuts, tree.event_count, a.cut_nodes, a.cut_root) {
-        return;
-    }
-    say_top(tree, a, nodes, lows, highs);
+    say_head(rt, tree, a)?;
+    pages::say_cuts(rt, cuts, tree.event_count, a.cut_nodes, a.cut_root)?;
+    say_top(rt, tree, a, nodes, lows, highs)
 }
 
 // Analyses a tree in tables of 4,096 nodes, and writes the answer.
-fn answer(bytes: &[u8]) {
+fn answer(rt: &impl Print, bytes: &[u8]) -> io::Result<()> {
     let mut nodes = [0u32; TABLE];
     let mut cuts = [0u32; TABLE];
     let mut gates = [0u32; paper::GATES];
@@ -110,17 +110,31 @@ fn answer(bytes: &[u8]) {
         &mut marks, &mut own,
     );
     if a.number != 0 {
-        say_refusal(a);
-        return;
+        return say_refusal(rt, a);
     }
     let r = analyser::read(bytes);
     let tree = r.tree;
-    report(tree, a, &nodes, &cuts, &mut heads, &mut next);
+    report(rt, tree, a, &nodes, &cuts, &mut heads, &mut next)
+}
+
+// Reads until the buffer is full or the input ends: how many bytes it put at the buffer's start.
+fn fill(input: &mut impl Read, buffer: &mut [u8]) -> io::Result<usize>
+    ensures { ReadsAtMost result buffer.new }
+{
+    let mut done = 0;
+    while done < buffer.len() {
+        let n = input.read(&mut buffer[done..])?;
+        if n == 0 {
+            break;
+        }
+        done += n;
+    }
+    Ok(done)
 }
 
 // No more of the input is read: these bytes decide.
-fn main() {
+fn main(rt: HostRuntime) -> io::Result<()> {
     let mut bytes = [0u8; paper::BYTES];
-    let n = io::read_full(0, &mut bytes);
-    answer(&bytes[..n]);
+    let n = fill(&mut rt.stdin(), &mut bytes)?;
+    answer(&rt, &bytes[..n])
 }

@@ -5,6 +5,8 @@ ghost use Rattle.tables.specs.Lent.{Lent};
 ghost use Rattle.listing.specs.Answers.{GoodStart};
 ghost use Rattle.matticklet.specs.Pages.{Page};
 
+use std::io;
+
 // A room of a listing, and the text that it can come to: at most three bytes for each byte, and a number to spare.
 const ROOM: usize = 16384;
 
@@ -44,8 +46,14 @@ fn page(
     }
 }
 
-// Writes a line for each cut, and says whether all of them could be written. It ends because the cuts that are left grow fewer.
-pub fn say_cuts(cuts: &[u32], events: usize, count: usize, root: usize) -> bool
+// Writes a line for each cut: all of them could be written, or an error. It ends because the cuts that are left grow fewer.
+pub fn say_cuts(
+    rt: &impl Print,
+    cuts: &[u32],
+    events: usize,
+    count: usize,
+    root: usize,
+) -> io::Result<()>
     requires { Lent true events cuts.now count root }
 {
     let mut text = [0u8; TEXT];
@@ -54,11 +62,9 @@ pub fn say_cuts(cuts: &[u32], events: usize, count: usize, root: usize) -> bool
     loop {
         let p = page(cuts, events, count, root, begin, s, &mut text);
         let n = p.text;
-        if !io::write_all(1, &text[..n]) {
-            return false;
-        }
+        rt.write_all(&text[..n])?;
         if p.finished {
-            return true;
+            return Ok(());
         }
         begin = false;
         s = p.last;

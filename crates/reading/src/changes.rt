@@ -4,6 +4,7 @@ ghost use Rattle.std.specs.Prelude.{◌≤◌};
 use crate::say;
 use paper::GATES_FROM;
 use records::{Event, Tree};
+use std::io;
 
 // (event 0 and event 1) or (event 1 and event 2): 36 bytes.
 const CASE: [u8; 36] = [
@@ -11,162 +12,156 @@ const CASE: [u8; 36] = [
     1, 2, 2, 5, 1, 5, 2, 3, 2, 6, 0, 0, 6, 1, 0, 7,
 ];
 
-fn byte(x: u8) {
-    io::print_decimal(1, x as u64);
+fn byte(rt: &impl Print, x: u8) -> io::Result<()> {
+    print!(rt; "{x}")
 }
 
-fn tell(words: &[u8], t: Tree) {
+fn tell(rt: &impl Print, words: &[u8], t: Tree) -> io::Result<()> {
     let mut room = [255u8; 4096];
     let w = writing::write(t, &mut room);
-    let a = w.answer;
-    io::write_all(1, words);
-    io::write_all(1, b": ");
-    say(a);
-    io::write_all(1, b", ");
-    io::print_decimal(1, w.bytes as u64);
-    io::write_all(1, b" bytes, then ");
-    byte(room[0]);
-    io::write_all(1, b" .. ");
-    byte(room[36]);
-    io::write_all(1, b"\n");
+    rt.write_all(words)?;
+    print!(rt; ": ")?;
+    say(rt, w.answer)?;
+    print!(rt; ", {} bytes, then ", w.bytes)?;
+    byte(rt, room[0])?;
+    print!(rt; " .. ")?;
+    byte(rt, room[36])?;
+    println!(rt;)
 }
 
 // A room of n bytes.
-fn in_room(t: Tree, n: usize)
+fn in_room(rt: &impl Print, t: Tree, n: usize) -> io::Result<()>
     requires { n ≤ 4096 }
 {
     let mut room = [255u8; 4096];
     let w = writing::write(t, &mut room[..n]);
-    let a = w.answer;
-    io::write_all(1, b"room of ");
-    io::print_decimal(1, n as u64);
-    io::write_all(1, b": ");
-    say(a);
-    io::write_all(1, b", ");
-    byte(room[0]);
-    io::write_all(1, b" .. ");
-    byte(room[35]);
-    io::write_all(1, b" ");
-    byte(room[36]);
-    io::write_all(1, b"\n");
+    print!(rt; "room of {n}: ")?;
+    say(rt, w.answer)?;
+    print!(rt; ", ")?;
+    byte(rt, room[0])?;
+    print!(rt; " .. ")?;
+    byte(rt, room[35])?;
+    print!(rt; " ")?;
+    byte(rt, room[36])?;
+    println!(rt;)
 }
 
-fn counts(t: Tree) {
+fn counts(rt: &impl Print, t: Tree) -> io::Result<()> {
     let mut u = t;
     u.event_count = 258;
-    tell(b"258 events, the last 255 unused", u);
+    tell(rt, b"258 events, the last 255 unused", u)?;
     u.event_count = 1025;
-    tell(b"1025 events", u);
+    tell(rt, b"1025 events", u)?;
     u.event_count = 18446744073709551615;
-    tell(b"2^64 - 1 events", u);
+    tell(rt, b"2^64 - 1 events", u)?;
     u.event_count = 0;
-    tell(b"no event", u);
+    tell(rt, b"no event", u)?;
     let mut v = t;
     v.gate_count = 0;
-    tell(b"no gate", v);
+    tell(rt, b"no gate", v)?;
     v.gate_count = 4;
-    tell(b"a gate of kind 0", v);
+    tell(rt, b"a gate of kind 0", v)?;
     v.gate_count = 18446744073709551615;
-    tell(b"2^64 - 1 gates", v);
+    tell(rt, b"2^64 - 1 gates", v)
 }
 
-fn gates(t: Tree) {
+fn gates(rt: &impl Print, t: Tree) -> io::Result<()> {
     let mut u = t;
     u.kinds[1] = 9;
-    tell(b"gate 1 of kind 9", u);
+    tell(rt, b"gate 1 of kind 9", u)?;
     u.kinds[1] = 4;
-    tell(b"gate 1 at least 0", u);
+    tell(rt, b"gate 1 at least 0", u)?;
     u.leasts[1] = 3;
-    tell(b"gate 1 at least 3 of 2", u);
+    tell(rt, b"gate 1 at least 3 of 2", u)?;
     u.kinds[1] = 3;
-    tell(b"gate 1 or, with a k of 3", u);
+    tell(rt, b"gate 1 or, with a k of 3", u)?;
     let mut v = t;
     v.sizes[0] = 0;
-    tell(b"gate 0 of no input", v);
+    tell(rt, b"gate 0 of no input", v)?;
     v.sizes[0] = 65;
-    tell(b"gate 0 of 65 inputs", v);
+    tell(rt, b"gate 0 of 65 inputs", v)?;
     v.sizes[0] = 3;
-    tell(b"gate 0 of 3 inputs", v);
+    tell(rt, b"gate 0 of 3 inputs", v)
 }
 
-fn twins(t: Tree) {
+fn twins(rt: &impl Print, t: Tree) -> io::Result<()> {
     let mut u = t;
     u.kinds[1] = 4;
     u.leasts[1] = 2;
-    tell(b"gate 1 at least 2 of events 1, 2", u);
+    tell(rt, b"gate 1 at least 2 of events 1, 2", u)?;
     u.inputs[3] = 1;
-    tell(b"gate 1 at least 2 of events 1, 1", u);
+    tell(rt, b"gate 1 at least 2 of events 1, 1", u)?;
     u.inputs[3] = GATES_FROM;
-    tell(b"gate 1 at least 2 of event 1, gate 0", u);
+    tell(rt, b"gate 1 at least 2 of event 1, gate 0", u)?;
     u.inputs[3] = 9;
     u.leasts[1] = 3;
-    tell(b"gate 1 at least 3 of events 1, 9", u);
+    tell(rt, b"gate 1 at least 3 of events 1, 9", u)
 }
 
-fn inputs(t: Tree) {
+fn inputs(rt: &impl Print, t: Tree) -> io::Result<()> {
     let mut u = t;
     u.inputs[0] = 3;
-    tell(b"input event 3", u);
+    tell(rt, b"input event 3", u)?;
     u.inputs[0] = 256;
-    tell(b"input event 256", u);
+    tell(rt, b"input event 256", u)?;
     u.inputs[0] = GATES_FROM;
-    tell(b"gate 0 in gate 0", u);
+    tell(rt, b"gate 0 in gate 0", u)?;
     u.inputs[0] = 1;
-    tell(b"event 0 unused", u);
+    tell(rt, b"event 0 unused", u)?;
     let mut v = t;
     v.inputs[4] = GATES_FROM + 1;
-    tell(b"gate 0 unused", v);
+    tell(rt, b"gate 0 unused", v)?;
     v.inputs[5] = GATES_FROM + 2;
-    tell(b"gate 2 in gate 2", v);
+    tell(rt, b"gate 2 in gate 2", v)?;
     v.inputs[5] = 65535;
-    tell(b"gate 64511 in gate 2", v);
+    tell(rt, b"gate 64511 in gate 2", v)?;
     let mut x = t;
     x.events[1] = Event {
         chance: 1000000001,
         site: 0,
     };
-    tell(b"chance 1000000001", x);
+    tell(rt, b"chance 1000000001", x)
 }
 
 // Sites in a tree whose records have none, and records with sites that are all 0.
-fn sites(t: Tree) {
+fn sites(rt: &impl Print, t: Tree) -> io::Result<()> {
     let mut u = t;
     u.events[2] = Event {
         chance: 100000000,
         site: 65535,
     };
-    tell(b"a site in event 2, without sites", u);
-    in_room(u, 35);
+    tell(rt, b"a site in event 2, without sites", u)?;
+    in_room(rt, u, 35)?;
     u.events[1] = Event {
         chance: 100000000,
         site: 1,
     };
-    tell(b"and one in event 1", u);
+    tell(rt, b"and one in event 1", u)?;
     u.inputs[0] = 1;
-    tell(b"and event 0 unused", u);
+    tell(rt, b"and event 0 unused", u)?;
     u.sited = true;
     u.inputs[0] = 0;
-    tell(b"with sites", u);
+    tell(rt, b"with sites", u)?;
     let mut v = t;
     v.sited = true;
-    tell(b"with sites, all 0", v);
+    tell(rt, b"with sites, all 0", v)?;
     v.inputs[2] = 0;
     v.inputs[1] = 0;
-    tell(b"with sites, event 1 unused", v);
+    tell(rt, b"with sites, event 1 unused", v)
 }
 
-pub fn all() {
+pub fn all(rt: &impl Print) -> io::Result<()> {
     let r = records::read(&CASE);
     let t = r.tree;
-    tell(b"as it was read", t);
-    counts(t);
-    gates(t);
-    twins(t);
-    inputs(t);
-    sites(t);
-    in_room(t, 35);
-    in_room(t, 36);
-    in_room(t, 37);
+    tell(rt, b"as it was read", t)?;
+    counts(rt, t)?;
+    gates(rt, t)?;
+    twins(rt, t)?;
+    inputs(rt, t)?;
+    sites(rt, t)?;
+    in_room(rt, t, 35)?;
+    in_room(rt, t, 36)?;
+    in_room(rt, t, 37)?;
     let none = records::empty();
-    tell(b"the empty tree", none);
+    tell(rt, b"the empty tree", none)
 }

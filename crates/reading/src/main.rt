@@ -5,19 +5,23 @@
 mod hexadecimal; // the bytes that a line of text stands for
 mod changes; // a tree changed in memory, and written
 
-ghost use Rattle.std.specs.Prelude.{◌≤◌, ◌<◌, length};
+ghost use Rattle.std.specs.Prelude.{◌≤◌, ◌<◌, length, IfOk};
+ghost use Rattle.std.specs.Io.{ReadsAtMost};
 
 use hexadecimal::parse;
 use rules::Answer;
+use std::io;
+use std::io::Read;
 
 // The most bytes of a line's tree: more than any reading needs.
 const VECTOR: usize = 28672;
 
+// The most bytes of the input.
+const INPUT: usize = 65536;
+
 // Says an answer: its number and its place.
-pub fn say(a: Answer) {
-    io::print_decimal(1, rules::number(a) as u64);
-    io::write_all(1, b" at ");
-    io::print_decimal(1, rules::place(a) as u64);
+pub fn say(rt: &impl Print, a: Answer) -> io::Result<()> {
+    print!(rt; "{} at {}", rules::number(a), rules::place(a))
 }
 
 // Whether a and b start with the same n bytes.
@@ -37,35 +41,33 @@ fn same<'a>(a: &'a [u8], b: &'a [u8], n: usize) -> bool {
 }
 
 // Reads a tree, and writes it back where it is accepted.
-fn report(bytes: &[u8]) {
+fn report(rt: &impl Print, bytes: &[u8]) -> io::Result<()> {
     let r = records::read(bytes);
     let a = r.answer;
-    say(a);
+    say(rt, a)?;
     if rules::number(a) == 0 {
         let t = r.tree;
         let mut room = [0u8; VECTOR];
         let w = writing::write(t, &mut room);
-        io::write_all(1, b", ");
-        io::print_decimal(1, t.event_count as u64);
-        io::write_all(1, b" events, ");
-        io::print_decimal(1, t.gate_count as u64);
-        io::write_all(1, b" gates, written back: ");
-        let b = w.answer;
-        say(b);
+        print!(rt;
+            ", {} events, {} gates, written back: ",
+            t.event_count, t.gate_count
+        )?;
+        say(rt, w.answer)?;
         if w.bytes == bytes.len() {
             if same(bytes, &room, w.bytes) {
-                io::write_all(1, b", the same bytes");
+                print!(rt; ", the same bytes")?;
             }
         }
     }
-    io::write_all(1, b"\n");
+    println!(rt;)
 }
 
 // The line's tree.
-fn vector(line: &[u8]) {
+fn vector(rt: &impl Print, line: &[u8]) -> io::Result<()> {
     let mut bytes = [0u8; VECTOR];
     let n = parse(line, &mut bytes);
-    report(&bytes[..n]);
+    report(rt, &bytes[..n])
 }
 
 // Where the line that starts at `at` ends.
@@ -84,30 +86,46 @@ fn line_end(text: &[u8], at: usize) -> usize
 }
 
 // The line that starts at `at`; answers where the next one does.
-fn line(text: &[u8], at: usize) -> usize
+fn line(rt: &impl Print, text: &[u8], at: usize) -> io::Result<usize>
     requires { at < length text.now }
-    ensures { at < result }
+    ensures { IfOk result (λ next. at < next) }
 {
     let end = line_end(text, at);
     if text[at] == b'#' {
-        io::write_all(1, &text[at..end]);
-        io::write_all(1, b"\n");
+        rt.write_all(&text[at..end])?;
+        println!(rt;)?;
     } else {
-        vector(&text[at..end]);
+        vector(rt, &text[at..end])?;
     }
-    end + 1
+    Ok(end + 1)
 }
 
-fn lines(text: &[u8]) {
+fn lines(rt: &impl Print, text: &[u8]) -> io::Result<()> {
     let mut at: usize = 0;
     while at < text.len() {
-        at = line(text, at);
+        at = line(rt, text, at)?;
     }
+    Ok(())
 }
 
-fn main() {
-    let mut text = io::large_buffer();
-    let n = io::read_full(0, &mut text);
-    lines(&text[..n]);
-    changes::all();
+// Reads until the buffer is full or the input ends: how many bytes it put at the buffer's start.
+fn fill(input: &mut impl Read, buffer: &mut [u8]) -> io::Result<usize>
+    ensures { ReadsAtMost result buffer.new }
+{
+    let mut done = 0;
+    while done < buffer.len() {
+        let n = input.read(&mut buffer[done..])?;
+        if n == 0 {
+            break;
+        }
+        done += n;
+    }
+    Ok(done)
+}
+
+fn main(rt: HostRuntime) -> io::Result<()> {
+    let mut text = [0u8; INPUT];
+    let n = fill(&mut rt.stdin(), &mut text)?;
+    lines(&rt, &text[..n])?;
+    changes::all(&rt)
 }

@@ -1,11 +1,14 @@
 -- Text at the front of a lent array, and the text of a listing's bytes.
 -- Assumes nothing.
-use Rattle.std.specs.Prelude.{◌≡◌, cond, List, [], ◌∷◌, ◌++◌, ℕ, ◌+◌, ◌*◌, eqb, take}
+use Rattle.std.specs.Prelude.{◌≡◌, cond, List, [], ◌∷◌, ◌++◌, ℕ, ◌+◌, ◌*◌, ◌≤◌, eqb, length, take}
 use Rattle.paper.specs.Exporting.{decimal}
-use Rattle.io.specs.Counts.{IsPrefixLen}
 use Rattle.text.specs.Lines.{blank, line_end}
 use Rattle.text.specs.declared.cuts.Place.{Place}
 use Rattle.text.specs.declared.cuts.Place.TheVariants.{Start, Event, Low, High, Behind}
+
+-- a text has r bytes and more: its part before r is within it, and has r bytes
+abbrev pub IsPrefixLen : ℕ → List ℕ → Type 0
+IsPrefixLen r text = (r ≤ length text) × (r ≡ length (take r text))
 
 -- the first r bytes of a text are s
 abbrev pub Front : ℕ → List ℕ → List ℕ → Type 0

@@ -1,9 +1,6 @@
 -- `brackets::each_is` is safe and ends. Assumes nothing.
 use Prim.Native.Nat.{◌-◌, ◌≤◌}
 use lib.ListN.{length}
-use borrow.Author.Rules.{rules}
-use Rattle.brackets.proofs.each_is.Reads as reads
-use Rattle.brackets.proofs.each_is.Lts as lts
 use Rattle.brackets.proofs.each_is.Given as goal
 
 abbrev pub invariant-loop-i : goal.invariant-loop-i

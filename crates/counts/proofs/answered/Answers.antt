@@ -1,5 +1,5 @@
 -- `counts::answered` meets its contract. Assumes nothing.
-use Rattle.std.proofs.Common.{arith, rules}
+use Rattle.std.proofs.Common.{arith}
 use Rattle.counts.proofs.Parts.{part_long}
 use Rattle.counts.proofs.answered.Goals as goal
 

@@ -1,9 +1,7 @@
 -- `counts::count_cuts` meets its contract. Assumes nothing.
-use Rattle.std.proofs.Common.{length, sym, refl, arith, rules}
-use Rattle.tables.specs.Table.{den}
-use Rattle.walk.specs.After.{to_list}
+use Rattle.std.proofs.Common.{sym, refl, arith}
 use Rattle.followup.proofs.Rooms.{fewer}
-use Rattle.counts.proofs.Counting.{Counted, count_none, count_more, count_end}
+use Rattle.counts.proofs.Counting.{count_none, count_more, count_end}
 use Rattle.counts.proofs.count_cuts.Goals as goal
 
 pub loop-room-init : goal.loop-room-init

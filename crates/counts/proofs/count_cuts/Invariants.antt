@@ -1,9 +1,8 @@
 -- `counts::count_cuts` meets its contract. Assumes nothing.
-use Rattle.std.proofs.Common.{length, sym, refl, arith, rules}
+use Rattle.std.proofs.Common.{length}
 use Rattle.tables.specs.Table.{den}
 use Rattle.walk.specs.After.{to_list}
-use Rattle.followup.proofs.Rooms.{fewer}
-use Rattle.counts.proofs.Counting.{Counted, count_none, count_more, count_end}
+use Rattle.counts.proofs.Counting.{Counted}
 use Rattle.counts.proofs.count_cuts.Given as goal
 
 abbrev pub invariant-loop-room : goal.invariant-loop-room

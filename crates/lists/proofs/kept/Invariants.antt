@@ -1,8 +1,6 @@
 -- `lists::kept` meets its contract. Assumes nothing.
-use borrow.Author.Rules.{rules}
 use Prim.Native.Nat.{◌-◌, ◌≤◌}
 use lib.ListN.{length}
-use Rattle.sets.specs.Words.{room}
 use Rattle.lists.proofs.kept.Given as goal
 
 abbrev pub invariant-loop-i : goal.invariant-loop-i

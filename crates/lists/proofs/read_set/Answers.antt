@@ -1,9 +1,7 @@
 -- `lists::read_set` meets its contract. Assumes nothing.
-use borrow.Author.Rules.{rules}
-use mathlib.Core.Path.{◌≡◌, sym, ap, ◌∙◌}
+use mathlib.Core.Path.{sym, ap, ◌∙◌}
 use Prim.Native.Nat.{◌-◌}
 use lib.ListN.{length}
-use Rattle.sets.specs.Words.{words}
 use Rattle.lists.proofs.read_set.Goals as goal
 
 pub loop-j-init : goal.loop-j-init

@@ -1,11 +1,9 @@
 -- `lists::show_bytes` meets its contract. Assumes nothing.
-use borrow.Author.Rules.{rules}
-use Prim.Native.Nat.{◌-◌, ◌≤◌}
-use Rattle.sets.specs.Words.{room}
+use Rattle.std.proofs.Common.{◌≤◌, ◌-◌, length}
 use Rattle.lists.proofs.show_bytes.Given as goal
 
 abbrev pub invariant-loop-i : goal.invariant-loop-i
-invariant-loop-i l = i ≤ l.i
+invariant-loop-i g l = (l.i ≤ l.i-end) × (l.i-end ≤ length l.room)
 
 abbrev pub decreases-loop-i : goal.decreases-loop-i
-decreases-loop-i l = l.i - i
+decreases-loop-i g l = l.i-end - l.i

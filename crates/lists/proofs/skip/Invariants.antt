@@ -1,5 +1,4 @@
 -- `lists::skip` meets its contract. Assumes nothing.
-use borrow.Author.Rules.{rules}
 use Prim.Native.Nat.{◌-◌, ◌≤◌}
 use lib.ListN.{length}
 use Rattle.lists.proofs.skip.Given as goal

@@ -1,8 +1,7 @@
 -- `matticklet::answer` meets its contract. Assumes nothing.
-use borrow.Author.Rules.{rules}
 use native.Mathlib.Omega.{arith}
 use Rattle.followup.proofs.Held.{held}
 use Rattle.matticklet.proofs.answer.Goals as goal
 
 pub report-requires : goal.report-requires
-report-requires c = held _ c.read-r.ensures.whole c.analyse-a.ensures (omega arith)
+report-requires g c = held _ c.read-r.ensures.whole c.analyse-a.ensures (omega arith)

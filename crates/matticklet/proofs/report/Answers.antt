@@ -1,9 +1,8 @@
 -- `matticklet::report` meets its contract. Assumes nothing.
-use borrow.Author.Rules.{rules}
 use Rattle.matticklet.proofs.report.Goals as goal
 
 pub say_cuts-requires : goal.say_cuts-requires
-say_cuts-requires c = c.requires.cuts
+say_cuts-requires g c = c.requires.cuts
 
 pub say_top-requires : goal.say_top-requires
-say_top-requires c = c.requires.nodes
+say_top-requires g c = c.requires.nodes

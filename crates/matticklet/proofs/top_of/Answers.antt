@@ -1,6 +1,5 @@
 -- `matticklet::top_of` meets its contract. Assumes nothing.
 use mathlib.Core.Path.{◌∙◌}
-use borrow.Author.Rules.{rules}
 use native.Mathlib.Omega.{arith}
 use Rattle.matticklet.proofs.TopLine.{top_line}
 use Rattle.matticklet.proofs.top_of.Goals as goal

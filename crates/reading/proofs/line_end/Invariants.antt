@@ -1,6 +1,5 @@
 -- `reading::line_end` meets its contract.
 -- Assumes nothing.
-use borrow.Author.Rules.{rules}
 use lib.ListN.{length}
 use Prim.Native.Nat.{◌-◌, ◌≤◌}
 use Rattle.reading.proofs.line_end.Given as goal

@@ -1,12 +1,10 @@
 -- `reading::lines` meets its contract.
 -- Assumes nothing.
-use borrow.Author.Rules.{rules}
-use lib.ListN.{length}
 use Prim.Native.Nat.{◌-◌}
 use Rattle.reading.proofs.lines.Goals as goal
 
 pub loop-at-init : goal.loop-at-init
-loop-at-init c = tt
+loop-at-init g c = tt
 
 pub loop-at-preserved : goal.loop-at-preserved
-loop-at-preserved c = tt
+loop-at-preserved g c = tt

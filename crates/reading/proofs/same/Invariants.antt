@@ -1,6 +1,5 @@
 -- `reading::same` meets its contract.
 -- Assumes nothing.
-use borrow.Author.Rules.{rules}
 use lib.ListN.{length}
 use Prim.Native.Nat.{◌-◌, ◌≤◌}
 use Rattle.reading.proofs.same.Given as goal

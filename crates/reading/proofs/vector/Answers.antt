@@ -2,8 +2,7 @@
 -- Assumes nothing.
 use mathlib.Core.Path.{sym}
 use lib.Seq.{length-take-le}
-use borrow.Author.Rules.{rules}
 use Rattle.reading.proofs.vector.Goals as goal
 
 pub slice_bounds-report-end : goal.slice_bounds-report-end
-slice_bounds-report-end c = sym (length-take-le _ _ c.parse-n.ensures)
+slice_bounds-report-end g c = sym (length-take-le _ _ c.parse-n.ensures)

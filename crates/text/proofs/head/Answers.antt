@@ -1,5 +1,4 @@
 -- `text::head` meets its contract. Assumes nothing.
-use borrow.Author.Rules.{rules}
 use native.Mathlib.Omega.{arith}
 use mathlib.Core.Path.{refl}
 use Rattle.text.specs.Lines.{events_word, gates_word, nodes_word}

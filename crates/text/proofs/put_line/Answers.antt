@@ -1,5 +1,4 @@
 -- `text::put_line` meets its contract. Assumes nothing.
-use borrow.Author.Rules.{rules}
 use native.Mathlib.Omega.{arith}
 use Rattle.decimals.proofs.Putting.{put_long, put_then}
 use Rattle.decimals.proofs.Decimals.{decimal_long}

@@ -1,5 +1,4 @@
 -- `text::put_number` meets its contract. Assumes nothing.
-use borrow.Author.Rules.{rules}
 use Rattle.text.proofs.Putting.{put_digits}
 use Rattle.text.proofs.put_number.Goals as goal
 

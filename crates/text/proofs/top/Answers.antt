@@ -1,5 +1,4 @@
 -- `text::top` meets its contract. Assumes nothing.
-use borrow.Author.Rules.{rules}
 use mathlib.Core.Path.{refl}
 use Rattle.text.proofs.Putting.{put_counts}
 use Rattle.text.proofs.top.Goals as goal

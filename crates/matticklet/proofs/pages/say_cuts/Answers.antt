@@ -1,30 +1,25 @@
 -- `matticklet::pages::say_cuts` meets its contract. Assumes nothing.
-use borrow.Author.Rules.{rules}
 use mathlib.Core.Bool.{true≢false}
-use lib.ListN.{length}
-use Rattle.tables.specs.Table.{den}
-use Rattle.walk.specs.After.{to_list}
-use Rattle.listing.specs.Answers.{GoodStart}
 use Rattle.matticklet.proofs.pages.say_cuts.Goals as goal
 
-pub loop-text-init : goal.loop-text-init
-loop-text-init c = λ z. absurd (true≢false z)
+pub loop-begin-init : goal.loop-begin-init
+loop-begin-init g c = λ z. absurd (true≢false z)
 
 pub page-p-requires : goal.page-p-requires
-page-p-requires c =
+page-p-requires g c =
     record {
       lent = c.requires;
-      good_start = c.loop-text.invariant;
+      good_start = c.loop-begin.invariant;
     }
 
 pub slice_bounds-text-end : goal.slice_bounds-text-end
-slice_bounds-text-end c = c.page-p.ensures.lines.0.0
+slice_bounds-text-end g c = c.page-p.ensures.lines.0.0
 
 pub slice_bounds-write_all-end : goal.slice_bounds-write_all-end
-slice_bounds-write_all-end c = c.page-p.ensures.lines.0.1
+slice_bounds-write_all-end g c = c.page-p.ensures.lines.0.1
 
-pub loop-text-smaller : goal.loop-text-smaller
-loop-text-smaller c = c.page-p.ensures.fewer c.if-p.false
+pub loop-begin-smaller : goal.loop-begin-smaller
+loop-begin-smaller g c = c.page-p.ensures.fewer c.if-p.false
 
-pub loop-text-preserved : goal.loop-text-preserved
-loop-text-preserved c = c.page-p.ensures.within
+pub loop-begin-preserved : goal.loop-begin-preserved
+loop-begin-preserved g c = c.page-p.ensures.within

@@ -2,8 +2,7 @@
 -- Assumes nothing.
 use lib.ListN.{length-take, length-replicate}
 use native.Mathlib.Omega.{arith}
-use borrow.Author.Rules.{rules}
 use Rattle.reading.proofs.changes.in_room.Goals as goal
 
 pub slice_bounds-write-end : goal.slice_bounds-write-end
-slice_bounds-write-end c = simp (length-take, length-replicate) (omega arith)
+slice_bounds-write-end g c = simp (length-take, length-replicate) (omega arith)

@@ -1,8 +1,6 @@
 -- `reading::hexadecimal::go_on` meets its contract.
 -- Assumes nothing.
-use borrow.Author.Rules.{rules}
-use lib.ListN.{length, length-set}
-use native.Mathlib.Omega.{arith}
+use lib.ListN.{length}
 use Prim.Native.Nat.{◌≤◌}
 use mathlib.Core.Path.{◌≡◌}
 use Rattle.reading.proofs.hexadecimal.go_on.Given as goal

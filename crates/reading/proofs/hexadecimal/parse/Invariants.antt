@@ -1,7 +1,6 @@
 -- `reading::hexadecimal::parse` meets its contract.
 -- Assumes nothing.
 use Rattle.reading.specs.Cursors.{Inside}
-use borrow.Author.Rules.{rules}
 use lib.ListN.{length}
 use Prim.Native.Nat.{◌-◌}
 use mathlib.Core.Path.{◌≡◌}

@@ -1,6 +1,5 @@
 -- `reading::hexadecimal::times` meets its contract.
 -- Assumes nothing.
-use borrow.Author.Rules.{rules}
 use lib.ListN.{length}
 use Prim.Native.Nat.{◌-◌, ◌≤◌}
 use Rattle.reading.proofs.hexadecimal.times.Given as goal

@@ -2,7 +2,6 @@
 -- Assumes nothing.
 use lib.ListN.{length-set}
 use native.Mathlib.Omega.{arith}
-use borrow.Author.Rules.{rules}
 use Rattle.reading.proofs.hexadecimal.token.Goals as goal
 
 pub returns-then-n-bytes : goal.returns-then-n-bytes

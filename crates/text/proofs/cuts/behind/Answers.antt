@@ -1,5 +1,4 @@
 -- `text::cuts::behind` meets its contract. Assumes nothing.
-use borrow.Author.Rules.{rules}
 use mathlib.Core.Path.{sym, ◌∙◌}
 use Rattle.text.proofs.Spelling.{start_from, behind_from, low_from}
 use Rattle.text.proofs.cuts.behind.Goals as goal

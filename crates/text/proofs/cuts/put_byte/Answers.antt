@@ -1,5 +1,4 @@
 -- `text::cuts::put_byte` meets its contract. Assumes nothing.
-use borrow.Author.Rules.{rules}
 use native.Mathlib.Omega.{arith}
 use Rattle.decimals.proofs.Putting.{put_none}
 use Rattle.text.proofs.Putting.{put_same}

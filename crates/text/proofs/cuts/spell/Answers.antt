@@ -1,9 +1,7 @@
 -- `text::cuts::spell` meets its contract. Assumes nothing.
-use borrow.Author.Rules.{rules}
 use native.Mathlib.Omega.{arith}
-use Prim.Native.Nat.{◌-◌}
 use Rattle.decimals.proofs.Putting.{put_long}
-use Rattle.text.proofs.Spelling.{Spelt, spell_none, spell_room, spell_more, spell_end}
+use Rattle.text.proofs.Spelling.{spell_none, spell_room, spell_more, spell_end}
 use Rattle.text.proofs.cuts.spell.Goals as goal
 
 pub loop-i-init : goal.loop-i-init
