@@ -17,10 +17,14 @@ pub returns-then-some-cuts : goal.returns-then-some-cuts
 returns-then-some-cuts c = too_short (says_true c.is_diagram.result (not-false c.is_diagram.result c.if-not-is_diagram.false-raw) c.is_diagram.ensures) (λ h. omega (arith, h, c.if-some-cuts.true)) (refused_now c.no_cut-then-some-cuts.ensures)
 
 pub returns-then-lowest-lt-MOST : goal.returns-then-lowest-lt-MOST
-returns-then-lowest-lt-MOST c = beyond (says_true c.is_diagram.result (not-false c.is_diagram.result c.if-not-is_diagram.false-raw) c.is_diagram.ensures) (omega arith) (beyond_low c.args.set c.lowest.ensures (omega (arith, c.told-set, c.if-lowest-lt-MOST.true))) (refused_now c.no_cut-then-lowest-lt-MOST.ensures)
+returns-then-lowest-lt-MOST c =
+    let long : length c.args.set ≡ words = search rules in
+    beyond (says_true c.is_diagram.result (not-false c.is_diagram.result c.if-not-is_diagram.false-raw) c.is_diagram.ensures) (omega arith) (beyond_low c.args.set c.lowest.ensures (omega (arith, long, c.if-lowest-lt-MOST.true))) (refused_now c.no_cut-then-lowest-lt-MOST.ensures)
 
 pub search-requires : goal.search-requires
 search-requires c = ((says_true c.is_diagram.result (not-false c.is_diagram.result c.if-not-is_diagram.false-raw) c.is_diagram.ensures), omega arith)
 
 pub returns : goal.returns
-returns c = searched (says_true c.is_diagram.result (not-false c.is_diagram.result c.if-not-is_diagram.false-raw) c.is_diagram.ensures) (omega arith) (not_beyond c.args.set c.lowest.ensures (omega (arith, c.told-set, c.if-lowest-lt-MOST.false))) c.search.ensures
+returns c =
+    let long : length c.args.set ≡ words = search rules in
+    searched (says_true c.is_diagram.result (not-false c.is_diagram.result c.if-not-is_diagram.false-raw) c.is_diagram.ensures) (omega arith) (not_beyond c.args.set c.lowest.ensures (omega (arith, long, c.if-lowest-lt-MOST.false))) c.search.ensures

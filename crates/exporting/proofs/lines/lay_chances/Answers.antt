@@ -2,12 +2,15 @@
 use borrow.Author.Rules.{rules}
 use native.Mathlib.Omega.{arith}
 use Prim.Native.Nat.{◌-◌}
-use lib.ListN.{length-map}
+use lib.ListN.{length, length-map}
+use mathlib.Core.Path.{◌≡◌}
 use Rattle.exporting.proofs.Chances.{Chanced, chances_start, chances_low, chances_more, chances_end}
 use Rattle.exporting.proofs.lines.lay_chances.Goals as goal
 
 pub loop-i-init : goal.loop-i-init
-loop-i-init c = chances_start c.args.room.now c.args.at c.args.tree c.requires (rw length-map at c.well_formed.1.1.0.1.1.0.1.0.1)
+loop-i-init c =
+    let long : length c.args.tree.events ≡ 1024 = search rules in
+    chances_start c.args.room.now c.args.at c.args.tree c.requires long
 
 pub offset_bounds-tree-i : goal.offset_bounds-tree-i
 offset_bounds-tree-i c = omega (arith, c.loop-i.invariant.few, c.loop-i-test.true)
