@@ -255,6 +255,9 @@ IN_CRATE = {
     "cuts": {"cut-nodes": "cut_nodes_lem"},
     "forcing": {"cut-nodes": "cut_nodes_lem"},
     "remaining": {"some-event": "some_event_lem"},
+    # a tactic's name today
+    "analysis": {"ground": "grounds"},
+    "importance": {"ground": "grounds"},
     "equations": {"all-inputs": "all_inputs_lem"},
     "scanning": {"name_in": "name_in_lem"},
     "sets": {"so-far": "so_far_lem"},

@@ -25,7 +25,7 @@ pub record Ground (t : paper.Tree) (m : Memory) (root c : ℕ) : Type 0 where
 
 pub record Grounded (m : Memory) (root c : ℕ) : Type 0 where
   pub tree : paper.Tree
-  pub ground : Ground tree m root c
+  pub grounds : Ground tree m root c
 
 -- from there: 11, or done
 pub data CutsFilled (t : paper.Tree) (m m' : Memory) (a : Analysis) : Type 0 where

@@ -34,14 +34,14 @@ pub record Roomy (c : ℕ) (W U : List ℕ) : Type 0 where
 
 -- between the passes: nodes of events from m on have the numbers of the given chances, rounded down in W and up in U
 pub record Kept (n : ℕ) (T : List ℕ) (c root : ℕ) (A K : List ℕ) (m : ℕ) (W U : List ℕ) : Type 0 where
-  pub ground : Ground n T c root A K
+  pub grounds : Ground n T c root A K
   pub roomy : Roomy c W U
   pub down : Later 0 A T W c m
   pub up : Later (billion - 1) A T U c m
 
 -- within a pass, before number i
 pub record Halfway (n : ℕ) (T : List ℕ) (c root : ℕ) (A K : List ℕ) (e : ℕ) (b : Bool) (W U : List ℕ) (i : ℕ) : Type 0 where
-  pub ground : Ground n T c root A K
+  pub grounds : Ground n T c root A K
   pub event : e < n
   pub roomy : Roomy c W U
   pub down : Again 0 e b A T K W c i

@@ -18,7 +18,7 @@ pub fill_cuts-requires : goal.fill_cuts-requires
 fill_cuts-requires c =
     record {
       tree = _;
-      ground = record {
+      grounds = record {
         sound = c.requires.buildable.sound;
         whole = whole_in c.args.tree (rw c.in-Complete.is at c.build_tree.ensures);
         lengths = build_lengths c.requires.buildable (record { nodes = c.build_tree.auto.nodes; cuts = refl; gates = c.build_tree.auto.gates; added = c.build_tree.auto.added; memo = c.build_tree.auto.memo; heads = c.build_tree.auto.heads; next = c.build_tree.auto.next; marks = refl; own = refl }) c.requires.lengths;

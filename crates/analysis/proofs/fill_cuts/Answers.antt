@@ -8,8 +8,8 @@ use Rattle.analysis.proofs.fill_cuts.Goals as goal
 pub build_cuts-requires : goal.build_cuts-requires
 build_cuts-requires c =
     record {
-      readable = ground_readable c.requires.ground;
-      room = ground_room c.requires.ground;
+      readable = ground_readable c.requires.grounds;
+      room = ground_room c.requires.grounds;
     }
 
 pub shape_of-cuts-in-Short : goal.shape_of-cuts-in-Short
