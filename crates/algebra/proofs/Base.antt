@@ -49,7 +49,7 @@ mk_same e f s h = if_pos (Diagram-discrete f s) h f (node e f s)
 pub mk_node : (e : ℕ) (f s : Diagram) → f ≢ s → mk_d e f s ≡ node e f s
 mk_node e f s h = if_neg (Diagram-discrete f s) h f (node e f s)
 
--- what mkD makes has what its two results have
+-- what mk_d makes has what its two results have
 pub mk_cases : (P : Diagram → Type 0) (e : ℕ) (f s : Diagram) → (f ≡ s → P f) → (f ≢ s → P (node e f s)) → P (mk_d e f s)
 mk_cases P e f s a b = go (Diagram-discrete f s)
   where

@@ -61,7 +61,7 @@ sub_fix m n d x o h = go d (top m n d o) h
     go d (at f s p a b) (inr h) = rw (fix_at m true f s, fix_at m false f s) (inr (in_append x (subs f) (subs s) h))
     go d (above d' a) h = rw (fix_above m n true d' a) (inr (inl h))
 
--- the branches handed to mkD stand in what it makes; of those handed to mkZ, leaf 0 may not
+-- the branches handed to mk_d stand in what it makes; of those handed to mk_z, leaf 0 may not
 pub mk_subs : (e : ℕ) (f s : Diagram) → In f (subs (mk_d e f s)) × In s (subs (mk_d e f s))
 mk_subs e f s = mk_cases (λ d. In f (subs d) × In s (subs d)) e f s
     (λ h. (subs_self f, subst (λ x. In x (subs f)) h (subs_self f)))

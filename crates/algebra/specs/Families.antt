@@ -13,7 +13,7 @@ abbrev pub is_one : Diagram → Bool
 is_one (leaf b) = b
 is_one (node e f s) = false
 
--- withoutNode d e wf ws g is d = node e f s without g, where wf and ws take f and s without a diagram
+-- without_node d e wf ws g is d = node e f s without g, where wf and ws take f and s without a diagram
 abbrev pub without_node : Diagram → ℕ → (Diagram → Diagram) → (Diagram → Diagram) → Diagram → Diagram
 without_node d e wf ws (leaf b) = cond b (leaf false) d
 without_node d e wf ws (node x g h) = cond (ltb e x)

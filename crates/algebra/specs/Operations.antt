@@ -7,7 +7,7 @@ use Rattle.paper.specs.Trees.{Gate}
 use Rattle.paper.specs.Steps.{values_from, steps_from}
 use Rattle.paper.specs.Diagrams.{Diagram, leaf, node, Diagram-discrete, mk_d}
 
--- joinNode z d e jf js g joins d = node e f s with g, where jf and js join f and s with a diagram
+-- join_node z d e jf js g joins d = node e f s with g, where jf and js join f and s with a diagram
 abbrev pub join_node : Bool → Diagram → ℕ → (Diagram → Diagram) → (Diagram → Diagram) → Diagram → Diagram
 join_node z d e jf js (leaf b) = cond (beq b z) (leaf z) d
 join_node z d e jf js (node x g h) = cond (ltb e x)

@@ -23,7 +23,7 @@ cut_list n F = keep (minimal_f n F) (all_sets n 0)
 -- ---- families
 
 -- A family of sets of n events is the function that is true at its sets.
--- fixFam m b: the sets that hold event m (b true) or lack it (b false), less event m
+-- fix_fam m b: the sets that hold event m (b true) or lack it (b false), less event m
 abbrev pub fix_fam : ℕ → Bool → Fun → Fun
 fix_fam m b X S = cond (S m) false (X (put m b S))
 
