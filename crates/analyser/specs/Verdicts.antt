@@ -4,7 +4,7 @@ use Rattle.std.specs.Prelude.{List, ℕ, length, ltb}
 use Rattle.paper.specs.Answers.{Verdict}
 use Rattle.paper.specs.Limits.{Limits}
 use Rattle.rules.specs.Answers.{verdict}
-use Rattle.rules.specs.Choice.{if◌then◌else◌}
+use Rattle.std.specs.Prelude.{if◌then◌else◌}
 use Rattle.records.specs.Judge.{accept, refuse}
 use Rattle.judging.specs.Bytes.{bytes_of}
 use Rattle.writing.specs.Writes.{written_as}

@@ -41,8 +41,8 @@ frames_opened S I {M} {K} {A} {d} {y} {M'} {K'} {A'} o k a =
     let name : get_or K' d 0 ≡ y = ap (λ (T : List ℕ). get_or T d 0) o.stack ∙ get_or-set_same K d y 0 k in
     let place : get_or A' d 0 ≡ get_or S y 0 = ap (λ (T : List ℕ). get_or T d 0) o.place ∙ get_or-set_same A d (get_or S y 0) 0 a in
     let kept = frames_kept S I K A K' A' d
-        (λ i h. ap (λ (T : List ℕ). get_or T i 0) o.stack ∙ get_or-set_other K d i y 0 (omega arith))
-        (λ i h. ap (λ (T : List ℕ). get_or T i 0) o.place ∙ get_or-set_other A d i (get_or S y 0) 0 (omega arith)) in
+    (λ i h. ap (λ (T : List ℕ). get_or T i 0) o.stack ∙ get_or-set_other K d i y 0 (omega arith))
+    (λ i h. ap (λ (T : List ℕ). get_or T i 0) o.place ∙ get_or-set_other A d i (get_or S y 0) 0 (omega arith)) in
     rw (name, place, kept) refl
 
 -- ---- an open name by its place

@@ -10,7 +10,7 @@ use lib.ListN.{length}
 use lib.Dec.{eqb}
 use lib.Seq.{drop-drop, drop_at}
 use lib.ListN.{drop}
-use Rattle.rules.specs.Choice.{if◌then◌else◌}
+use Rattle.std.specs.Prelude.{if◌then◌else◌}
 use Rattle.rules.specs.Format.{length_of, event_in, body_of, record_of, width_of, encode}
 use Rattle.judging.specs.Inner.{Own}
 use Rattle.rules.specs.declared.format.Record.{Record}

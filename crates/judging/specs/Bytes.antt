@@ -2,7 +2,7 @@
 use Rattle.std.specs.Prelude.{ℕ, zero, suc, ◌+◌, ◌-◌, Bool, List, ◌++◌, get_or, ltb, eqb}
 use Rattle.paper.specs.Limits.{limits, wide_from}
 use Rattle.paper.specs.Lists.{sum}
-use Rattle.rules.specs.Choice.{if◌then◌else◌}
+use Rattle.std.specs.Prelude.{if◌then◌else◌}
 use Rattle.rules.specs.Format.{event_in, encode}
 use Rattle.paper.specs.Flat.{gates_from}
 use Rattle.records.specs.Memory.{pad, tabulate, no_event}

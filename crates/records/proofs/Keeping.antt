@@ -12,7 +12,7 @@ use borrow.Author.Tests.{ltb-true, ltb-false, le-ltb}
 use borrow.Author.Count.{below_more}
 use Rattle.paper.specs.Limits.{limits, wide_from, billion}
 use Rattle.paper.specs.Lists.{sum}
-use Rattle.rules.specs.Choice.{if◌then◌else◌}
+use Rattle.std.specs.Prelude.{if◌then◌else◌}
 use Rattle.rules.specs.Format.{byte, record_of, width_of}
 use Rattle.rules.specs.Longest.{longest_run}
 use Rattle.paper.specs.Flat.{gates_from}

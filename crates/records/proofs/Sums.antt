@@ -12,7 +12,7 @@ use lib.Dec.{ltb, eqb}
 use borrow.Author.Tests.{ltb-true, ltb-false, lt-ltb, le-ltb, eqb-true}
 use borrow.Author.Count.{below_more}
 use Rattle.paper.specs.Lists.{sum}
-use Rattle.rules.specs.Choice.{if◌then◌else◌}
+use Rattle.std.specs.Prelude.{if◌then◌else◌}
 use Rattle.records.specs.Uses.{among}
 use Rattle.records.specs.Judge.{◌▷◌}
 use Rattle.rules.proofs.Cases.{if_elim, either}

@@ -3,7 +3,7 @@ use Rattle.std.specs.Prelude.{ℕ, zero, suc, ◌+◌, ◌-◌, Bool, false, Lis
 use Rattle.paper.specs.Answers.{Verdict}
 use Rattle.paper.specs.Limits.{Limits}
 use Rattle.rules.specs.Answers.{verdict}
-use Rattle.rules.specs.Choice.{if◌then◌else◌}
+use Rattle.std.specs.Prelude.{if◌then◌else◌}
 use Rattle.rules.specs.Rules.{step_of}
 use Rattle.records.specs.Thresholds.{starved_by}
 use Rattle.records.specs.Uses.{unused_of}

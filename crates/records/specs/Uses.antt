@@ -1,7 +1,7 @@
 -- The paper's number 8: an item that is an input nowhere.
 use Rattle.std.specs.Prelude.{ℕ, zero, suc, ◌+◌, ◌-◌, ◌*◌, List, [], ◌∷◌, Bool, true, false, eqb, length, get_or}
 use Rattle.paper.specs.Flat.{gates_from}
-use Rattle.rules.specs.Choice.{if◌then◌else◌}
+use Rattle.std.specs.Prelude.{if◌then◌else◌}
 use Rattle.rules.specs.Format.{event_length}
 use Rattle.records.specs.declared.uses.Found.{Found}
 use Rattle.records.specs.declared.uses.Found.TheVariants.{At, Nothing}

@@ -9,7 +9,7 @@ use lib.ListN.{length, drop, length-drop}
 use lib.Dec.{ltb, leb, eqb}
 use borrow.Author.Tests.{ltb-false, leb-false, eqb-false, ne_eqb}
 use Rattle.paper.specs.Limits.{limits, wide_from, billion}
-use Rattle.rules.specs.Choice.{if◌then◌else◌}
+use Rattle.std.specs.Prelude.{if◌then◌else◌}
 use Rattle.rules.specs.Answers.{verdict}
 use Rattle.rules.specs.Format.{event_in, event_length, record_of, width_of}
 use Rattle.paper.specs.Flat.{gates_from}

@@ -1,7 +1,7 @@
 -- What a record does at a place of the reading: the paper's numbers 1 to 7 but 5, and 21, in their order. The limits are parameters.
 use Rattle.std.specs.Prelude.{ℕ, ◌+◌, ◌<◌, Bool, true, false, List, length, drop, ltb, leb, eqb}
 use Rattle.paper.specs.Limits.{Limits, wide_from, billion}
-use Rattle.rules.specs.Choice.{if◌then◌else◌}
+use Rattle.std.specs.Prelude.{if◌then◌else◌}
 use Rattle.rules.specs.Format.{record_of, width_of}
 use Rattle.paper.specs.Flat.{gates_from}
 use Rattle.rules.specs.declared.Answer.TheVariants.{Cut, UnknownKind, OutOfPlace, Count, Reference, Chance, Narrow}

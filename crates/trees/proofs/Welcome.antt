@@ -9,7 +9,7 @@ use borrow.Author.Tests.{ltb-true, ltb-false, leb-true, eqb-true, eqb-false, le-
 use Rattle.paper.specs.Limits.{limits, wide_from, billion}
 use Rattle.paper.specs.Flat.{gates_from}
 use Rattle.rules.specs.Rules.{wrong_k, mixed, event_step, gate_step, end_step, admit_of, Fits}
-use Rattle.rules.specs.Choice.{if◌then◌else◌}
+use Rattle.std.specs.Prelude.{if◌then◌else◌}
 use Rattle.rules.specs.Format.{event_in}
 use Rattle.judging.specs.Bytes.{input_record, gate_record}
 use Rattle.rules.specs.declared.format.Record.{Record}

@@ -1,7 +1,7 @@
 -- What writing a tree in memory answers, and what the room holds next.
 use Rattle.std.specs.Prelude.{ℕ, ◌*◌, List, ◌++◌, length, drop, ltb}
 use Rattle.paper.specs.Limits.{Limits}
-use Rattle.rules.specs.Choice.{if◌then◌else◌}
+use Rattle.std.specs.Prelude.{if◌then◌else◌}
 use Rattle.rules.specs.Format.{length_of}
 use Rattle.records.specs.Judge.{Outcome, accept, refuse, outcome}
 use Rattle.judging.specs.Bytes.{bytes_of}

@@ -65,9 +65,9 @@ loop-i-preserved c =
       c.fill_node.auto.work ∙ c.loop-i.invariant.2,
       c.fill_node-in-loop-i.auto.work ∙ c.loop-i.invariant.3,
       filled_next c.requires.0 0 (omega arith) c.event_of-e.ensures c.failed_of-f.ensures c.sound_of-s.ensures c.wide-a.ensures
-    c.loop-i.invariant.0 c.loop-i-test.true (omega (arith, c.loop-i.invariant.2, c.requires.1)) c.loop-i.invariant.4 c.fill_node.ensures,
+          c.loop-i.invariant.0 c.loop-i-test.true (omega (arith, c.loop-i.invariant.2, c.requires.1)) c.loop-i.invariant.4 c.fill_node.ensures,
       filled_next c.requires.0 (billion - 1) (omega arith) c.event_of-e.ensures c.failed_of-f.ensures c.sound_of-s.ensures c.wide-a.ensures
-    c.loop-i.invariant.0 c.loop-i-test.true (omega (arith, c.loop-i.invariant.3, c.requires.2)) c.loop-i.invariant.5 c.fill_node-in-loop-i.ensures,
+          c.loop-i.invariant.0 c.loop-i-test.true (omega (arith, c.loop-i.invariant.3, c.requires.2)) c.loop-i.invariant.5 c.fill_node-in-loop-i.ensures,
     )
 
 pub shape_of-lows : goal.shape_of-lows
