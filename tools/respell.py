@@ -159,6 +159,9 @@ def main(argv):
         for n in declared(t):
             names[n].add(p)
     table = {n: respelled(n) for n in names if respelled(n) != n}
+    if len(table) < 1000:
+        print("respell: the names have today's spelling: nothing to do")
+        return 0
     table.update(OTHER)
     # names that fall together: two spellings of one file that become one
     meet = set()
