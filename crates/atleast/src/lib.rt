@@ -15,7 +15,7 @@ use paper::INPUTS;
 use store::Built;
 
 // The count of nodes after some steps; or the table is full.
-#[derive(Drop)]
+#[derive(Clone, Copy)]
 pub enum Count {
     To(usize),
     Full(usize),

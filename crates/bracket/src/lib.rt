@@ -16,7 +16,7 @@ const DOWN: u64 = 0;
 const UP: u64 = D - 1;
 
 // What the call answers: a number of the paper, its place, which is 0 always, and the two ends, which are 0 in a refusal.
-#[derive(Drop)]
+#[derive(Clone, Copy)]
 pub struct Ends {
     pub number: u8,
     pub place: usize,

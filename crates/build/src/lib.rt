@@ -15,7 +15,7 @@ use store::Built;
 use tables::clear;
 
 // All gates are built: the root's node and the count of nodes; or the gate at which the table was full.
-#[derive(Drop)]
+#[derive(Clone, Copy)]
 pub enum Finish {
     Complete(u32, usize),
     Over(usize),

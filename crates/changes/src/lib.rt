@@ -35,7 +35,7 @@ pub fn side(yesterday: &[u8], today: &[u8]) -> Which
 }
 
 // What a whole comparison answers: its number, its place, which is 0 always, the side of a fault, and the numbers of cuts gone, new and kept.
-#[derive(Drop)]
+#[derive(Clone, Copy)]
 pub struct Compared {
     pub number: u8,
     pub place: usize,

@@ -11,7 +11,7 @@ ghost use Rattle.decision.specs.Searching.{Covers, Searches};
 use sidebyside::cut::{first_end, member, next, width};
 
 // What `decides` answers: its number, its place, which is 0 always, and whether the set contains a listed cut; a refusal does not say.
-#[derive(Drop)]
+#[derive(Clone, Copy)]
 pub struct Decided {
     pub number: u8,
     pub place: usize,
@@ -54,7 +54,7 @@ fn covers(s: &[u8], at: usize, set: &[u64; sets::WORDS]) -> bool
 }
 
 // What a listing says of a set: nothing, for it has a fault, or whether the set contains one of its cuts.
-#[derive(Drop)]
+#[derive(Clone, Copy)]
 pub enum Outcome {
     Fault,
     Contains(bool),

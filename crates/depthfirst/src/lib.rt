@@ -9,21 +9,21 @@ ghost use Rattle.depthfirst.specs.Marking.{Rooms, Idle, Clear, Listed, Passes, S
 ghost use Rattle.depthfirst.specs.Answers.{WalksOn, Walks, WalksAll, Numberable, Numbers, RootIs};
 
 // Done: how many names were left. Back: the places of the stack, from the first up to the second, are a ring.
-#[derive(Drop)]
+#[derive(Clone, Copy)]
 pub enum Walked {
     Done(usize),
     Back(usize, usize),
 }
 
 // One: the one name that is an input of none. Not: no such name, or more than one.
-#[derive(Drop)]
+#[derive(Clone, Copy)]
 pub enum Root {
     One(u32),
     Not,
 }
 
 // How many of some names are events, and how many gates.
-#[derive(Drop)]
+#[derive(Clone, Copy)]
 pub struct Counts {
     pub events: u32,
     pub gates: u32,

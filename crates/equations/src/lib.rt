@@ -19,7 +19,7 @@ use records::Tree;
 use tables::clear;
 
 // What an import answers: its number, place 0, the place of the line at fault (15 and 16), the length of the ring that is shown (17), and the tree.
-#[derive(Drop)]
+#[derive(Clone, Copy)]
 pub struct Imported {
     pub number: u8,
     pub place: usize,

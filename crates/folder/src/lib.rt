@@ -12,7 +12,7 @@ ghost use Rattle.folder.specs.Steps.{Sums, Tried};
 use totals::{add_tree, at_once, clear_areas, is_fitting, write_done};
 
 // What a folder answers: its number and place, and the index of the tree that is refused.
-#[derive(Drop)]
+#[derive(Clone, Copy)]
 pub struct Gathered {
     pub number: u8,
     pub place: usize,

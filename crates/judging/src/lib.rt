@@ -16,7 +16,7 @@ use rules::format::{Record, width};
 use rules::judge::{State, Step, admit, begin, past_event, past_gate, past_input};
 
 // What writing a tree answers: the bytes are 0 in a refusal.
-#[derive(Drop)]
+#[derive(Clone, Copy)]
 pub struct Written {
     pub answer: Answer,
     pub bytes: usize,

@@ -17,7 +17,7 @@ pub enum Kind {
 }
 
 // A line, the place of its line feed or the text's end, and the place of the next line.
-#[derive(Drop)]
+#[derive(Clone, Copy)]
 pub struct Read {
     pub kind: Kind,
     pub stop: usize,

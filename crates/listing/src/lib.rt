@@ -47,7 +47,7 @@ fn small(x: u8) -> usize
 }
 
 // A member, and the bytes of its record.
-#[derive(Drop)]
+#[derive(Clone, Copy)]
 pub struct Member {
     pub event: usize,
     pub width: usize,
@@ -104,7 +104,7 @@ pub fn last_set(
 }
 
 // What a listing call answers: its number, its place, which is 0 always, the cuts written, the bytes used, the last set, and whether no cut follows it.
-#[derive(Drop)]
+#[derive(Clone, Copy)]
 pub struct Listed {
     pub number: u8,
     pub place: usize,

@@ -19,14 +19,14 @@ const FILL: u8 = 0xAA;
 const INPUT: usize = 65536;
 
 // A number of the input, and the place behind it.
-#[derive(Drop)]
+#[derive(Clone, Copy)]
 pub struct Taken {
     pub value: usize,
     pub next: usize,
 }
 
 // A set of the input, and the place behind it.
-#[derive(Drop)]
+#[derive(Clone, Copy)]
 pub struct Given {
     pub set: [u64; sets::WORDS],
     pub next: usize,

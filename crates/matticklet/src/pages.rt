@@ -13,7 +13,7 @@ const ROOM: usize = 16384;
 const TEXT: usize = 49172;
 
 // A page: the bytes of its text, the last set, and whether no cut follows.
-#[derive(Drop)]
+#[derive(Clone, Copy)]
 pub struct Turned {
     pub text: usize,
     pub last: [u64; sets::WORDS],

@@ -9,7 +9,7 @@ ghost use Rattle.names.specs.Interning.{First, Interned, Zeros, Sought, Interns}
 use lines::{is_word, name_end, wide};
 
 // The number of a name, and how many names there are.
-#[derive(Drop)]
+#[derive(Clone, Copy)]
 pub struct Named {
     pub number: u32,
     pub count: u32,

@@ -39,7 +39,7 @@ pub const SIZES: usize = EVENTS + 1;
 pub const BILLION: u32 = 1000000000;
 
 // The constants as one value, so that what code counts with is shown to be what the definitions say.
-#[derive(Drop)]
+#[derive(Clone, Copy)]
 pub struct Bounds {
     pub events: usize,
     pub gates: usize,

@@ -81,7 +81,7 @@ pub fn member(j: Judgement) -> usize
 }
 
 // The judgement, and the first cut that misses the set: the empty set where none is told.
-#[derive(Drop)]
+#[derive(Clone, Copy)]
 pub struct Checked {
     pub judgement: Judgement,
     pub cut: [u64; sets::WORDS],
@@ -157,7 +157,7 @@ pub fn check(
 // ---- a set is proposed
 
 // What the planner answers: a number of the paper, its place, which is 0 always, and the set that it proposes, which is empty in a refusal.
-#[derive(Drop)]
+#[derive(Clone, Copy)]
 pub struct Proposal {
     pub number: u8,
     pub place: usize,

@@ -15,7 +15,7 @@ use records::{Event, Tree, empty};
 use twins::distinct;
 
 // The number of the first limit that an event breaks; where it is 0, how many events there are, and the events, with zeros behind them.
-#[derive(Drop)]
+#[derive(Clone, Copy)]
 pub struct Sown {
     pub number: u8,
     pub count: usize,
@@ -23,7 +23,7 @@ pub struct Sown {
 }
 
 // The number of the first limit that the tree breaks; where it is 0, the tree, else the empty one.
-#[derive(Drop)]
+#[derive(Clone, Copy)]
 pub struct Planted {
     pub number: u8,
     pub tree: Tree,

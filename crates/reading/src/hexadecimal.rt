@@ -3,7 +3,7 @@ ghost use Rattle.std.specs.Prelude.{◌≤◌, ◌<◌, length};
 ghost use Rattle.reading.specs.Cursors.{Inside, Moved};
 
 // Where the line stands, how many bytes it has given, and where the last group starts in them.
-#[derive(Drop)]
+#[derive(Clone, Copy)]
 pub struct Cursor {
     pub at: usize,
     pub bytes: usize,
@@ -11,7 +11,7 @@ pub struct Cursor {
 }
 
 // A number in decimal, and where it ends.
-#[derive(Drop)]
+#[derive(Clone, Copy)]
 pub struct Repeat {
     pub value: usize,
     pub next: usize,

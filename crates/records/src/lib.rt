@@ -38,7 +38,7 @@ pub struct Tree {
     pub sited: bool,
 }
 
-#[derive(Drop)]
+#[derive(Clone, Copy)]
 pub struct Reading {
     pub answer: Answer,
     pub tree: Tree,

@@ -9,7 +9,7 @@ use rules::format::event_length;
 use rules::judge::State;
 
 // What a search for an unused item finds.
-#[derive(Drop)]
+#[derive(Clone, Copy)]
 pub enum Found {
     At(usize),
     Nothing,

@@ -21,7 +21,7 @@ use counts::{TOTALS, clear};
 // ---- the first cut that misses a set
 
 // What the search answers: its number, its place, which is 0 always, whether a cut misses the set, and the first that does; the empty set where none does.
-#[derive(Drop)]
+#[derive(Clone, Copy)]
 pub struct Missed {
     pub number: u8,
     pub place: usize,
@@ -94,7 +94,7 @@ pub fn first_missing(
 // ---- how many of the cuts that miss a set hold each event
 
 // What the counting answers: a number of the paper, and its place, which is 0 always.
-#[derive(Drop)]
+#[derive(Clone, Copy)]
 pub struct Tally {
     pub number: u8,
     pub place: usize,

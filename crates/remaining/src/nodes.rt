@@ -6,7 +6,7 @@ ghost use Rattle.tables.specs.Lent.{Lent};
 ghost use Rattle.remaining.specs.Nodes.{Reads};
 
 // A node: its event, the branch with the event failed, and the branch with it sound.
-#[derive(Drop)]
+#[derive(Clone, Copy)]
 pub struct Node {
     pub event: usize,
     pub failed: usize,

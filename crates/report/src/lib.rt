@@ -19,7 +19,7 @@ ghost use Rattle.report.specs.Answers.{to_report, Enough, Answered, Cleared};
 ghost use Rattle.report.specs.Inner.{Begun, Judged, Names};
 
 // What a report call answers: the edition, which is 0 in a refusal, and what a listing call answers, of reportable cuts.
-#[derive(Drop)]
+#[derive(Clone, Copy)]
 pub struct Reported {
     pub edition: u32,
     pub number: u8,

@@ -22,7 +22,7 @@ pub struct State {
 }
 
 // What a record adds to the tree, with the place of the next record; or why it is refused.
-#[derive(Drop)]
+#[derive(Clone, Copy)]
 pub enum Step {
     // Its chance, its site, and whether it has one.
     AddEvent(u32, u16, bool, usize),

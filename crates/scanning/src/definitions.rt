@@ -19,7 +19,7 @@ fn is_equation(kind: Kind) -> bool
 }
 
 // How far the text is looked through, and one more than the place of the first line whose left name stands twice.
-#[derive(Drop)]
+#[derive(Clone, Copy)]
 pub struct Told {
     pub next: usize,
     pub twice: usize,

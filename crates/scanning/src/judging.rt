@@ -8,14 +8,14 @@ use lines::{Kind, line};
 use names::{clear, look, place};
 
 // All chance lines and no others are right; or the place of the first wrong line.
-#[derive(Drop)]
+#[derive(Clone, Copy)]
 pub enum Chances {
     Given,
     Wrong(usize),
 }
 
 // How far the text is judged, and whether a line was wrong.
-#[derive(Drop)]
+#[derive(Clone, Copy)]
 pub struct Passed {
     pub next: usize,
     pub wrong: bool,

@@ -15,7 +15,7 @@ use judging::{Chances, give};
 use numbering::gather;
 
 // What the scan of a text finds: how many names there are, or number 15 or 16 with the place of the line.
-#[derive(Drop)]
+#[derive(Clone, Copy)]
 pub enum Scanned {
     Done(u32),
     Fifteen(usize),

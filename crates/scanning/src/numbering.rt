@@ -10,7 +10,7 @@ use lines::{Kind, line, next_name};
 use names::{clear, intern};
 
 // How far the text is read, and how many names there are.
-#[derive(Drop)]
+#[derive(Clone, Copy)]
 pub struct Went {
     pub next: usize,
     pub count: u32,

@@ -10,7 +10,7 @@ ghost use Rattle.settings.specs.States.{states_in, states_after, Gives, ChancesF
 use paper::{BILLION, EVENTS};
 
 // The number of a store, 0, 24 or 13, and the place.
-#[derive(Drop)]
+#[derive(Clone, Copy)]
 pub struct Judgement {
     pub number: u8,
     pub place: usize,

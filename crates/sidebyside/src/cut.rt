@@ -15,7 +15,7 @@ const WIDE: u8 = 0x23;
 const FIRST_WIDE: usize = paper::WIDE_FROM as usize;
 
 // Which of two cuts stands first in the order of listings.
-#[derive(Drop)]
+#[derive(Clone, Copy)]
 pub enum Earlier {
     First,
     Same,
@@ -95,7 +95,7 @@ pub fn width(e: usize) -> usize
 }
 
 // Where two cuts part: the bytes of the members that they share, and the ranks of what stands behind these.
-#[derive(Drop)]
+#[derive(Clone, Copy)]
 pub struct Fork {
     pub bytes: usize,
     pub first: usize,

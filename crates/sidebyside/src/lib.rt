@@ -59,7 +59,7 @@ pub fn listing(w: Which) -> u8
 }
 
 // What is left of a listing: a fault, or so many cuts.
-#[derive(Drop)]
+#[derive(Clone, Copy)]
 pub enum Tail {
     Fault,
     Left(usize),
@@ -86,7 +86,7 @@ fn rest(s: &[u8], at: usize, end: usize) -> Tail
 }
 
 // What is left of two listings: yesterday's fault comes first.
-#[derive(Drop)]
+#[derive(Clone, Copy)]
 pub enum Tails {
     FaultFirst,
     FaultSecond,
@@ -112,7 +112,7 @@ fn rests(y: &[u8], i: usize, e: usize, t: &[u8], j: usize, f: usize) -> Tails
 }
 
 // What a comparison found, and the places where the cut starts and ends.
-#[derive(Drop)]
+#[derive(Clone, Copy)]
 pub enum Difference {
     Alike,
     OfYesterday(usize, usize),
@@ -122,7 +122,7 @@ pub enum Difference {
 }
 
 // Where two listings part: the cuts at `at`, their ends, and what that shows if both are good.
-#[derive(Drop)]
+#[derive(Clone, Copy)]
 pub struct Parting {
     pub at: usize,
     pub end: usize,
@@ -192,7 +192,7 @@ pub fn find(y: &[u8], t: &[u8]) -> Difference
 }
 
 // How far two listings are compared: the cuts that stand next, and the numbers gone, new and kept up to there.
-#[derive(Drop)]
+#[derive(Clone, Copy)]
 pub struct Progress {
     pub i: usize,
     pub e: usize,
@@ -276,7 +276,7 @@ fn merge(y: &[u8], t: &[u8]) -> Progress
 }
 
 // The numbers gone, new and kept, or whose fault refuses.
-#[derive(Drop)]
+#[derive(Clone, Copy)]
 pub enum Numbers {
     RefusedYesterday,
     RefusedToday,

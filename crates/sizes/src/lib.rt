@@ -255,7 +255,7 @@ fn write(totals: &[u64; SIZES], counts: &mut [u64])
 // ---- the call
 
 // What the call answers: a number of the paper, and its place, which is 0 always.
-#[derive(Drop)]
+#[derive(Clone, Copy)]
 pub struct Tally {
     pub number: u8,
     pub place: usize,

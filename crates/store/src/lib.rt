@@ -13,14 +13,14 @@ ghost use Rattle.store.specs.Placing.{Puts, built_of};
 ghost use Rattle.store.specs.Memo.{Places, Used, There, Place, Keeps, Recalls};
 
 // A node and the count of nodes after it; or the table is full. The count grew exactly if the node is new.
-#[derive(Drop)]
+#[derive(Clone, Copy)]
 pub enum Built {
     Done(u32, usize),
     Short(usize),
 }
 
 // The number of a node that was there, or that was added; or no room for it.
-#[derive(Drop)]
+#[derive(Clone, Copy)]
 pub enum Placed {
     Present(u32),
     Added(u32),
@@ -28,14 +28,14 @@ pub enum Placed {
 }
 
 // What the memo says: the result, or the place where it is to be kept.
-#[derive(Drop)]
+#[derive(Clone, Copy)]
 pub enum Known {
     Node(u32),
     Unknown(usize),
 }
 
 // Two numbers taken apart at the earlier of their events: what they become with it failed, f1 and g1, and sound, f0 and g0.
-#[derive(Drop)]
+#[derive(Clone, Copy)]
 pub struct Parts {
     pub e: u32,
     pub f1: u32,

@@ -21,7 +21,7 @@ pub struct Spot {
 }
 
 // Whether a cut was reached, the depth of its path, and an event above which its set has no member.
-#[derive(Drop)]
+#[derive(Clone, Copy)]
 pub struct Move {
     pub found: bool,
     pub depth: usize,
