@@ -8,29 +8,33 @@ ghost use Rattle.records.specs.Judge.{outcome, judge};
 ghost use Rattle.records.specs.Memory.{in_memory};
 ghost use Rattle.writing.specs.Writes.{wrote, write_of};
 ghost use Rattle.listing.specs.Answers.{Answered};
+ghost use Rattle.listing.specs.Results.{count_of, used_of, last_of, finished_of};
+ghost use Rattle.paper.specs.Refusals.{number_of};
+ghost use Rattle.bracket.specs.Answers.{low_of, high_of};
 ghost use Rattle.bracket.specs.Bracketed.{Bracketed};
 ghost use Rattle.memory.specs.Memory.{memory};
+ghost use Rattle.memory.specs.Analysis.{analysis_of};
 ghost use Rattle.analyser.specs.Analysed.{Analysed};
 ghost use Rattle.analyser.specs.Verdicts.{judge_writing};
 
 use bracket::Ends;
-use judging::Written;
 use listing::Listed;
-use memory::Analysis;
-use records::{Reading, Tree};
+use memory::Tables;
+use paper::refusal::{Refusal, Refused};
+use records::Tree;
 
 // Reads a tree from its bytes.
-pub fn read(bytes: &[u8]) -> Reading
+pub fn read(bytes: &[u8]) -> Result<Tree, rules::Refusal>
     ensures whole { result ≡ in_memory (outcome limits bytes.now) }
-    ensures numbered { verdict result.answer ≡ judge limits bytes.now }
+    ensures numbered { verdict result ≡ judge limits bytes.now }
 {
     records::read(bytes)
 }
 
-// Writes a tree's bytes to the front of room.
-pub fn write(tree: Tree, room: &mut [u8]) -> Written
-    ensures whole { wrote result.answer result.bytes room.new ≡ write_of limits tree room.old }
-    ensures numbered { verdict result.answer ≡ judge_writing limits tree room.old }
+// Writes a tree's bytes to the front of room, and answers how many they are.
+pub fn write(tree: Tree, room: &mut [u8]) -> Result<usize, rules::Refusal>
+    ensures whole { wrote result room.new ≡ write_of limits tree room.old }
+    ensures numbered { verdict result ≡ judge_writing limits tree room.old }
 {
     writing::write(tree, room)
 }
@@ -44,8 +48,8 @@ pub fn list(
     begin: bool,
     s: [u64; sets::WORDS],
     room: &mut [u8],
-) -> Listed
-    ensures { Answered events cuts.now count root begin s room.old room.new result.number result.place result.count result.used result.last result.finished }
+) -> Result<Listed, Refusal>
+    ensures { Answered events cuts.now count root begin s room.old room.new (number_of result) 0 (count_of result) (used_of result) (last_of result) (finished_of result) }
 {
     listing::list(cuts, events, count, root, begin, s, room)
 }
@@ -59,8 +63,8 @@ pub fn bracket(
     chances: &[u32],
     lows: &mut [u32],
     highs: &mut [u32],
-) -> Ends
-    ensures { Bracketed events nodes.now count root chances.now result.number result.place result.low result.high lows.old highs.old lows.new highs.new }
+) -> Result<Ends, Refusal>
+    ensures { Bracketed events nodes.now count root chances.now (number_of result) 0 (low_of result) (high_of result) lows.old highs.old lows.new highs.new }
 {
     bracket::bracket(nodes, events, count, root, chances, lows, highs)
 }
@@ -78,16 +82,10 @@ pub fn analyse(
     next: &mut [u32],
     marks: &mut [u32],
     own: &mut [u32],
-) -> Analysis
-    ensures { Analysed bytes.now (memory nodes.old cuts.old gates.old added.old memo.old heads.old next.old marks.old own.old) (memory nodes.new cuts.new gates.new added.new memo.new heads.new next.new marks.new own.new) result }
+) -> Result<Tables, Refused>
+    ensures { Analysed bytes.now (memory nodes.old cuts.old gates.old added.old memo.old heads.old next.old marks.old own.old) (memory nodes.new cuts.new gates.new added.new memo.new heads.new next.new marks.new own.new) (analysis_of result) }
 {
-    let r = records::read(bytes);
-    let a = r.answer;
-    let number = rules::number(a);
-    if number != 0 {
-        return memory::refused(number, rules::place(a));
-    }
-    let tree = r.tree;
+    let tree = records::read(bytes)?;
     analysis::analyse_tree(
         tree, nodes, cuts, gates, added, memo, heads, next, marks, own,
     )

@@ -9,7 +9,7 @@ use Rattle.build.specs.Finishing.{Whole, TooMany}
 use Rattle.build.proofs.Needed.{needed_fits, filled_at}
 use Rattle.memory.specs.Memory.{Memory, capacity, AllZero}
 use Rattle.memory.specs.Outcome.{Refused, at}
-use Rattle.memory.specs.declared.Analysis.{Analysis}
+use Rattle.memory.specs.Analysis.{Analysis}
 use Rattle.memory.proofs.Before.{SameLengths, all_zero_from, done_from}
 use Rattle.analysis.specs.Completing.{Sound, CutsFilled}
 use Rattle.analysis.specs.Filling.{Filled}

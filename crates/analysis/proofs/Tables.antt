@@ -20,7 +20,7 @@ use Rattle.cuts.specs.Cutting.{cut_nodes, CutTable, Room}
 use Rattle.cuts.proofs.Promises.{lent_readable, short_needs, done_needs, done_fits, done_list, done_lent}
 use Rattle.memory.specs.Memory.{Memory, memory, capacity, Zero, AllZero, Settled}
 use Rattle.memory.specs.Outcome.{Refused, at, Done}
-use Rattle.memory.specs.declared.Analysis.{Analysis}
+use Rattle.memory.specs.Analysis.{Analysis}
 use Rattle.memory.proofs.Before.{SameLengths, zero_from, all_zero_from}
 use Rattle.analysis.specs.Completing.{Ground, CutsFilled}
 use Rattle.analysis.proofs.Holding.{whole_holds, table_holds}

@@ -8,7 +8,7 @@ use Rattle.paper.specs.Answers.{CutsFull}
 use Rattle.build.specs.Finishing.{Whole}
 use Rattle.memory.specs.Memory.{Memory, capacity, AllZero, Lengths}
 use Rattle.memory.specs.Outcome.{Refused, at, Done}
-use Rattle.memory.specs.declared.Analysis.{Analysis}
+use Rattle.memory.specs.Analysis.{Analysis}
 
 -- what a tree that was read keeps, with some events forced or none
 pub record Sound (t : paper.Tree) : Type 0 where

@@ -11,7 +11,7 @@ use Rattle.records.specs.declared.Tree.{Tree}
 use Rattle.build.specs.Memory.{Arrays}
 use Rattle.memory.specs.Memory.{Memory, Lengths, capacity, AllZero}
 use Rattle.memory.specs.Outcome.{Refused, at}
-use Rattle.memory.specs.declared.Analysis.{Analysis}
+use Rattle.memory.specs.Analysis.{Analysis}
 use Rattle.analysis.specs.Completing.{Sound, CutsFilled}
 
 -- a tree in memory that was read

@@ -4,15 +4,15 @@
 mod lengths; // number 9
 
 ghost use Rattle.memory.specs.Memory.{memory, Lengths};
+ghost use Rattle.memory.specs.Analysis.{analysis_of};
 ghost use Rattle.analysis.specs.Completing.{Grounded, FillsCuts};
 ghost use Rattle.records.specs.Trees.{tree_in};
 ghost use Rattle.analysis.specs.Filling.{Buildable, Filled, Tried};
 
-use build::Finish;
 use lengths::lengths_ok;
-use memory::Analysis;
+use memory::Tables;
+use paper::refusal::{Refusal, Refused};
 use records::Tree;
-use store::Built;
 
 // The cut table over a finished node table. Where the cuts do not fit all becomes zero; otherwise the memo and the work areas do.
 fn fill_cuts(
@@ -27,25 +27,26 @@ fn fill_cuts(
     own: &mut [u32],
     root: u32,
     count: usize,
-) -> Analysis
+) -> Result<Tables, Refused>
     requires { Grounded (memory nodes.old cuts.old gates.old added.old memo.old heads.old next.old marks.old own.old) root count }
-    ensures { FillsCuts (memory nodes.old cuts.old gates.old added.old memo.old heads.old next.old marks.old own.old) root count (memory nodes.new cuts.new gates.new added.new memo.new heads.new next.new marks.new own.new) result }
+    ensures { FillsCuts (memory nodes.old cuts.old gates.old added.old memo.old heads.old next.old marks.old own.old) root count (memory nodes.new cuts.new gates.new added.new memo.new heads.new next.new marks.new own.new) (analysis_of result) }
 {
     match cuts::build_cuts(cuts, heads, next, memo, marks, own, nodes, root as usize) {
-        Built::Short(full) => {
+        Err(_) => {
             memory::wipe(nodes, cuts, gates, added, memo, heads, next, marks, own);
-            memory::refused(11, 0)
-        }
-        Built::Done(cut_root, cut_nodes) => {
-            memory::settle(memo, heads, next, marks, own);
-            Analysis {
-                number: 0,
+            Err(Refused {
+                why: Refusal::CutsFull,
                 place: 0,
+            })
+        }
+        Ok(cut) => {
+            memory::settle(memo, heads, next, marks, own);
+            Ok(Tables {
                 nodes: count,
-                cut_nodes,
+                cut_nodes: cut.count,
                 root: root as usize,
-                cut_root: cut_root as usize,
-            }
+                cut_root: cut.node as usize,
+            })
         }
     }
 }
@@ -62,21 +63,32 @@ fn fill(
     next: &mut [u32],
     marks: &mut [u32],
     own: &mut [u32],
-) -> Analysis
+) -> Result<Tables, Refused>
     requires buildable { Buildable tree }
     requires lengths { Lengths tree.gate_count (memory nodes.old cuts.old gates.old added.old memo.old heads.old next.old marks.old own.old) }
-    ensures { Filled (tree_in tree) (memory nodes.old cuts.old gates.old added.old memo.old heads.old next.old marks.old own.old) (memory nodes.new cuts.new gates.new added.new memo.new heads.new next.new marks.new own.new) result }
+    ensures { Filled (tree_in tree) (memory nodes.old cuts.old gates.old added.old memo.old heads.old next.old marks.old own.old) (memory nodes.new cuts.new gates.new added.new memo.new heads.new next.new marks.new own.new) (analysis_of result) }
 {
     match build::build_tree(tree, nodes, heads, next, memo, gates, added) {
-        Finish::Over(gate) => {
+        Err(over) => {
             memory::wipe(nodes, cuts, gates, added, memo, heads, next, marks, own);
-            memory::refused(10, gate)
+            Err(Refused {
+                why: Refusal::NodesFull,
+                place: over.gate,
+            })
         }
-        Finish::Complete(root, used) => {
-            fill_cuts(
-                nodes, cuts, gates, added, memo, heads, next, marks, own, root, used,
-            )
-        }
+        Ok(built) => fill_cuts(
+            nodes,
+            cuts,
+            gates,
+            added,
+            memo,
+            heads,
+            next,
+            marks,
+            own,
+            built.node,
+            built.count,
+        ),
     }
 }
 
@@ -92,15 +104,18 @@ pub fn analyse_tree(
     next: &mut [u32],
     marks: &mut [u32],
     own: &mut [u32],
-) -> Analysis
+) -> Result<Tables, Refused>
     requires { Buildable tree }
-    ensures { Tried tree (memory nodes.old cuts.old gates.old added.old memo.old heads.old next.old marks.old own.old) (memory nodes.new cuts.new gates.new added.new memo.new heads.new next.new marks.new own.new) result }
+    ensures { Tried tree (memory nodes.old cuts.old gates.old added.old memo.old heads.old next.old marks.old own.old) (memory nodes.new cuts.new gates.new added.new memo.new heads.new next.new marks.new own.new) (analysis_of result) }
 {
     let count = tree.gate_count;
     if !lengths_ok(
         nodes, cuts, gates, added, memo, heads, next, marks, own, count,
     ) {
-        return memory::refused(9, 0);
+        return Err(Refused {
+            why: Refusal::Length,
+            place: 0,
+        });
     }
     fill(
         tree, nodes, cuts, gates, added, memo, heads, next, marks, own,

@@ -1,16 +1,15 @@
 -- What stands in the array of a tree's chances, and which events of a tree that was read are all zero.
 -- Assumes nothing.
 use mathlib.Core.Path.{◌≡◌, sym, ap, ◌∙◌}
-use mathlib.Core.List.{List, []}
-use Prim.Native.Nat.{ℕ, ◌+◌, ◌-◌, ◌≤◌, ◌<◌}
+use mathlib.Core.List.{List}
+use Prim.Native.Nat.{ℕ, ◌+◌, ◌-◌, ◌<◌}
 use native.Mathlib.Omega.{arith}
 use lib.ListN.{length, get_or, replicate, get_or-replicate}
 use lib.Seq.{get_or-append-add}
 use Rattle.paper.specs.Limits.{limits}
-use Rattle.records.specs.Judge.{Outcome, accept, refuse}
-use Rattle.records.specs.Memory.{no_event, pad, memory, in_memory}
+use Rattle.records.specs.Judge.{Book}
+use Rattle.records.specs.Memory.{no_event, pad, memory}
 use Rattle.records.specs.declared.Event.{Event}
-use Rattle.records.specs.declared.Reading.{Reading}
 use Rattle.arrays.specs.Chances.{chances_of, Blank}
 use Rattle.arrays.proofs.Filling.{tabulate_long, tabulate_at}
 
@@ -32,7 +31,6 @@ blank_pad xs k l h =
     ∙ get_or-replicate n (k - length xs) no_event no_event (omega arith)
 
 -- a tree that was read
-pub blank_read : (o : Outcome) {r : Reading} → r ≡ in_memory o → Blank r.tree.events r.tree.event_count
-unfolding in_memory memory
-blank_read (accept b) e = rw e (blank_pad b.events)
-blank_read (refuse a) e = rw e (blank_pad [])
+pub blank_read : (b : Book) → Blank (memory b).events (memory b).event_count
+unfolding memory
+blank_read b = blank_pad b.events

@@ -4,6 +4,7 @@ use mathlib.Core.Path.{◌≡◌, refl, sym, ap₂, ◌∙◌, subst}
 use mathlib.Core.Logic.{◌⊎◌, inl, inr}
 use mathlib.Core.Bool.{true, false}
 use mathlib.Core.List.{List, [], ◌∷◌, map}
+use Rattle.std.specs.Prelude.{Result, Ok, Err}
 use Prim.Native.Nat.{ℕ, suc, ◌+◌, ◌-◌, ◌≤◌, ◌<◌}
 use native.Mathlib.Omega.{arith}
 use lib.ListN.{length, get_or, set, drop, replicate, length-set, length-replicate}
@@ -15,7 +16,7 @@ use Rattle.algebra.specs.Operations.{join_d}
 use Rattle.tables.specs.Table.{den}
 use Rattle.store.specs.Building.{Part, PartOf, Found, Step, Stops}
 use Rattle.store.specs.declared.Built.{Built}
-use Rattle.store.specs.declared.Built.TheVariants.{Done, Short}
+use Rattle.store.specs.declared.Full.{Full}
 use Rattle.store.proofs.Denotes.{den_grown}
 use Rattle.store.proofs.Zeros.{zero_at}
 use Rattle.store.proofs.Building.{step_here, step_more, stops_more, step_seq, stops_seq}
@@ -56,16 +57,16 @@ module _ {T H X M : List ℕ} {c x l m : ℕ} (h : Held T H X M c) (x-in : x < c
     is_pair : join_d true (den T₁ b) (den T₁ m) ≡ P
     is_pair = ap₂ (join_d true) a.makes.found.is (den_grown h.store.lower a.makes.step.grown m m-in)
 
-    pub pair_second : (T₂ H₂ X₂ M₂ : List ℕ) (r : Built) → Joins T₁ M₁ c₁ (join_d true (den T₁ b) (den T₁ m)) T₂ H₂ X₂ M₂ r → Gains (C ∷ (P ∷ [])) P T c T₂ H₂ X₂ M₂ r
+    pub pair_second : (T₂ H₂ X₂ M₂ : List ℕ) (r : Result Built Full) → Joins T₁ M₁ c₁ (join_d true (den T₁ b) (den T₁ m)) T₂ H₂ X₂ M₂ r → Gains (C ∷ (P ∷ [])) P T c T₂ H₂ X₂ M₂ r
     pair_second T₂ H₂ X₂ M₂ r j = go r (subst (λ d. Joins T₁ M₁ c₁ d T₂ H₂ X₂ M₂ r) is_pair j)
       where
-        go : (r : Built) → Joins T₁ M₁ c₁ P T₂ H₂ X₂ M₂ r → Gains (C ∷ (P ∷ [])) P T c T₂ H₂ X₂ M₂ r
-        go (Done r c₂) j = record {
+        go : (r : Result Built Full) → Joins T₁ M₁ c₁ P T₂ H₂ X₂ M₂ r → Gains (C ∷ (P ∷ [])) P T c T₂ H₂ X₂ M₂ r
+        go (Ok r) j = record {
           made = made_seq (P ∷ []) (made_one a.makes) (made_one j.makes);
           held = record { store = j.makes.step.store; tidy = j.tidy; memo = j.memo };
           found = j.makes.found;
         }
-        go (Short c₂) j = made_stops (P ∷ []) (made_one a.makes) (stops_one j)
+        go (Err x) j = made_stops (P ∷ []) (made_one a.makes) (stops_one j)
 
 -- ---- pair by pair
 
@@ -132,7 +133,7 @@ module _ {k : ℕ} {xs : List ℕ} {i : ℕ} {T : List ℕ} {c j : ℕ} {T₁ H�
     wanted : (d : Diagram) → In d (both ds due ∷ (whole ds due ∷ [])) → In d (least_steps_d k ds)
     wanted = due_steps ds due
 
-    fit : (T₂ H₂ X₂ M₂ : List ℕ) (r : Built) → Gains (C₁ ∷ (P₁ ∷ [])) P₁ T₁ c₁ T₂ H₂ X₂ M₂ r → Gains (both ds due ∷ (whole ds due ∷ [])) (whole ds due) T₁ c₁ T₂ H₂ X₂ M₂ r
+    fit : (T₂ H₂ X₂ M₂ : List ℕ) (r : Result Built Full) → Gains (C₁ ∷ (P₁ ∷ [])) P₁ T₁ c₁ T₂ H₂ X₂ M₂ r → Gains (both ds due ∷ (whole ds due ∷ [])) (whole ds due) T₁ c₁ T₂ H₂ X₂ M₂ r
     fit T₂ H₂ X₂ M₂ r g =
         subst (λ p. Gains (both ds due ∷ (p ∷ [])) p T₁ c₁ T₂ H₂ X₂ M₂ r) is_whole (subst (λ b. Gains (b ∷ (P₁ ∷ [])) P₁ T₁ c₁ T₂ H₂ X₂ M₂ r) is_both g)
 
@@ -141,7 +142,7 @@ module _ {k : ℕ} {xs : List ℕ} {i : ℕ} {T : List ℕ} {c j : ℕ} {T₁ H�
         (join_d true (join_d false (den T₁ (get_or xs i 0)) (den T₁ (get_or R (j - 1) 0))) (den T₁ (get_or R j 0))) T₁ c₁ T₂ H₂ X₂ M₂ c₂ r
         → Pairing k xs i T c (j - 1) T₂ H₂ X₂ M₂ (set R j r) c₂
     pairing_next {T₂} {H₂} {X₂} {M₂} {c₂} {r} room b =
-        let g = fit T₂ H₂ X₂ M₂ (Done r c₂) b in
+        let g = fit T₂ H₂ X₂ M₂ (Ok (record { node = r; count = c₂ })) b in
         let s = g.made.step in
         let low = a.held.store.lower in
         record {
@@ -156,7 +157,7 @@ module _ {k : ℕ} {xs : List ℕ} {i : ℕ} {T : List ℕ} {c j : ℕ} {T₁ H�
     pub pairing_short : {T₂ H₂ X₂ : List ℕ} {c₂ : ℕ}
         → Stops (PartOf (join_d false (den T₁ (get_or xs i 0)) (den T₁ (get_or R (j - 1) 0)) ∷ (join_d true (join_d false (den T₁ (get_or xs i 0)) (den T₁ (get_or R (j - 1) 0))) (den T₁ (get_or R j 0)) ∷ []))) T₁ c₁ T₂ H₂ X₂ c₂
         → Stops (PartOf (least_steps_d k ds)) T c T₂ H₂ X₂ c₂
-    pairing_short {T₂} {H₂} {X₂} {c₂} b = stops_seq a.step (stops_more (part_more wanted) (fit T₂ H₂ X₂ M₁ (Short c₂) b))
+    pairing_short {T₂} {H₂} {X₂} {c₂} b = stops_seq a.step (stops_more (part_more wanted) (fit T₂ H₂ X₂ M₁ (Err (record { count = c₂ })) b))
 
 -- ---- input by input
 

@@ -1,13 +1,12 @@
 -- At least k of n: the pairs that the rule reaches, and what taking an input answers.
 -- Assumes nothing.
-use Rattle.std.specs.Prelude.{◌≡◌, ◌⊎◌, List, ℕ, ◌+◌, ◌≤◌, length, get_or, drop}
+use Rattle.std.specs.Prelude.{◌≡◌, ◌⊎◌, List, ℕ, ◌+◌, ◌≤◌, length, get_or, drop, Result, Ok, Err}
 use Rattle.paper.specs.Limits.{limits}
 use Rattle.paper.specs.Diagrams.{Diagram}
 use Rattle.store.specs.Building.{PartOf, Found, Step, Stops}
+use Rattle.store.specs.declared.Full.{Full}
 use Rattle.atleast.specs.Rules.{least_d, least_steps_d}
 use Rattle.atleast.specs.Making.{All, Held}
-use Rattle.atleast.specs.declared.Count.{Count}
-use Rattle.atleast.specs.declared.Count.TheVariants.{To, Full}
 
 -- at-least j of xs has number r, and its steps are made
 pub record Pair (T : List ℕ) (c : ℕ) (xs : List Diagram) (j r : ℕ) : Type 0 where
@@ -36,6 +35,6 @@ pub record Taken (k : ℕ) (ds : List Diagram) (i : ℕ) (T : List ℕ) (c : ℕ
   pub held : Held T' H' X' M' c'
   pub reached : Reached T' c' k ds i R'
 
-abbrev pub Takes : (k : ℕ) (ds : List Diagram) (i : ℕ) (T : List ℕ) (c : ℕ) (T' H' X' M' R' : List ℕ) → Count → Type 0
-Takes k ds i T c T' H' X' M' R' (To c') = Taken k ds i T c T' H' X' M' R' c'
-Takes k ds i T c T' H' X' M' R' (Full c') = Stops (PartOf (least_steps_d k ds)) T c T' H' X' c'
+abbrev pub Takes : (k : ℕ) (ds : List Diagram) (i : ℕ) (T : List ℕ) (c : ℕ) (T' H' X' M' R' : List ℕ) → Result ℕ Full → Type 0
+Takes k ds i T c T' H' X' M' R' (Ok c') = Taken k ds i T c T' H' X' M' R' c'
+Takes k ds i T c T' H' X' M' R' (Err x) = Stops (PartOf (least_steps_d k ds)) T c T' H' X' x.count

@@ -1,13 +1,13 @@
 -- What making a row of steps answers: every new node is a node of some step, and each step's diagram has a number.
 -- Assumes nothing.
-use Rattle.std.specs.Prelude.{false, List, ℕ, ◌+◌, ◌<◌, length, get_or}
+use Rattle.std.specs.Prelude.{false, List, ℕ, ◌+◌, ◌<◌, length, get_or, Result, Ok, Err}
 use Rattle.paper.specs.Lists.{In}
 use Rattle.paper.specs.Diagrams.{Diagram, leaf}
 use Rattle.store.specs.Store.{Store}
 use Rattle.store.specs.Memo.{Memo}
 use Rattle.store.specs.Building.{PartOf, Found, Step, Stops, Tidy}
 use Rattle.store.specs.declared.Built.{Built}
-use Rattle.store.specs.declared.Built.TheVariants.{Done, Short}
+use Rattle.store.specs.declared.Full.{Full}
 use Rattle.pairs.specs.Pairs.{Right}
 
 -- ---- diagrams that have numbers
@@ -44,6 +44,6 @@ pub record Gained (ds : List Diagram) (D : Diagram) (T : List ℕ) (c : ℕ) (T'
   pub found : Found T' c' D r
 
 -- or the table is full, and lacks a node of some step
-abbrev pub Gains : (ds : List Diagram) (D : Diagram) (T : List ℕ) (c : ℕ) (T' H' X' M' : List ℕ) → Built → Type 0
-Gains ds D T c T' H' X' M' (Done r c') = Gained ds D T c T' H' X' M' c' r
-Gains ds D T c T' H' X' M' (Short c') = Stops (PartOf ds) T c T' H' X' c'
+abbrev pub Gains : (ds : List Diagram) (D : Diagram) (T : List ℕ) (c : ℕ) (T' H' X' M' : List ℕ) → Result Built Full → Type 0
+Gains ds D T c T' H' X' M' (Ok b) = Gained ds D T c T' H' X' M' b.count b.node
+Gains ds D T c T' H' X' M' (Err x) = Stops (PartOf ds) T c T' H' X' x.count

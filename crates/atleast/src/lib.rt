@@ -12,14 +12,7 @@ ghost use Rattle.atleast.specs.AtLeast.{Reached, Highest, Lowest, Takes};
 
 use joins::join;
 use paper::INPUTS;
-use store::Built;
-
-// The count of nodes after some steps; or the table is full.
-#[derive(Clone, Copy)]
-pub enum Count {
-    To(usize),
-    Full(usize),
-}
+use store::{Built, Full};
 
 // At-least 0 to at-least k.
 const ROW: usize = INPUTS + 1;
@@ -29,20 +22,14 @@ fn highest(k: usize, n: usize, i: usize) -> usize
     requires { i ≤ n }
     ensures { Highest k n i result }
 {
-    if k < n - i {
-        return k;
-    }
-    n - i
+    k.min(n - i)
 }
 
 // The lowest j above 0 that the rule reaches from k by i inputs.
 fn lowest(k: usize, i: usize) -> usize
     ensures { Lowest k i result }
 {
-    if i < k {
-        return k - i;
-    }
-    1
+    k.saturating_sub(i).max(1)
 }
 
 // (x and less) or more.
@@ -55,17 +42,15 @@ fn pair(
     x: u32,
     less: u32,
     more: u32,
-) -> Built
+) -> Result<Built, Full>
     requires held { Held nodes.old heads.old next.old memo.old count }
     requires x_bound { x < count + 2 }
     requires less_bound { less < count + 2 }
     requires more_bound { more < count + 2 }
     ensures { Gains (join_d false (den nodes.old x) (den nodes.old less) ∷ (join_d true (join_d false (den nodes.old x) (den nodes.old less)) (den nodes.old more) ∷ [])) (join_d true (join_d false (den nodes.old x) (den nodes.old less)) (den nodes.old more)) nodes.old count nodes.new heads.new next.new memo.new result }
 {
-    match join(nodes, heads, next, memo, count, 0, x, less) {
-        Built::Done(both, used) => join(nodes, heads, next, memo, used, 1, both, more),
-        Built::Short(used) => Built::Short(used),
-    }
+    let both = join(nodes, heads, next, memo, count, 0, x, less)?;
+    join(nodes, heads, next, memo, both.count, 1, both.node, more)
 }
 
 // Takes input i into the row: j falls, so that at-least j - 1 is still without it.
@@ -79,7 +64,7 @@ fn take_input(
     count: usize,
     k: usize,
     i: usize,
-) -> Count
+) -> Result<usize, Full>
     requires held { Held nodes.old heads.old next.old memo.old count }
     requires within { Within count xs.now }
     requires i_in_bounds { i < length xs.now }
@@ -88,19 +73,14 @@ fn take_input(
     ensures { Takes k (map (den nodes.old) xs.now) i nodes.old count nodes.new heads.new next.new memo.new row.new result }
 {
     let low = lowest(k, i);
-    let mut j = highest(k, xs.len(), i);
+    let high = highest(k, xs.len(), i);
     let mut used = count;
-    while low <= j {
-        match pair(nodes, heads, next, memo, used, xs[i], row[j - 1], row[j]) {
-            Built::Done(r, to) => {
-                row[j] = r;
-                used = to;
-            }
-            Built::Short(to) => return Count::Full(to),
-        }
-        j -= 1;
+    for j in (low..high + 1).rev() {
+        let b = pair(nodes, heads, next, memo, used, xs[i], row[j - 1], row[j])?;
+        row[j] = b.node;
+        used = b.count;
     }
-    Count::To(used)
+    Ok(used)
 }
 
 // The node of at least k of xs.
@@ -112,7 +92,7 @@ pub fn at_least(
     xs: &[u32],
     count: usize,
     k: usize,
-) -> Built
+) -> Result<Built, Full>
     requires held { Held nodes.old heads.old next.old memo.old count }
     requires within { Within count xs.now }
     requires k_le_inputs { k ≤ limits.inputs }
@@ -121,13 +101,11 @@ pub fn at_least(
     let mut row = [0u32; ROW];
     row[0] = 1;
     let mut used = count;
-    let mut i = xs.len();
-    while 0 < i {
-        i -= 1;
-        match take_input(nodes, heads, next, memo, &mut row, xs, used, k, i) {
-            Count::To(to) => used = to,
-            Count::Full(to) => return Built::Short(to),
-        }
+    for i in (0..xs.len()).rev() {
+        used = take_input(nodes, heads, next, memo, &mut row, xs, used, k, i)?;
     }
-    Built::Done(row[k], used)
+    Ok(Built {
+        node: row[k],
+        count: used,
+    })
 }

@@ -30,14 +30,6 @@ mix_le a x y r ha hx hy hr = let s = sum_le a x y ha hx hy in omega arith
 
 -- ---- reading a work area
 
-pub number_0 : (W : List ℕ) (i : ℕ) → i ≡ 0 → 0 ≡ number_in W i
-unfolding number_in
-number_0 W i e = sym (ap (number_in W) e)
-
-pub number_1 : (W : List ℕ) (i : ℕ) → i ≡ 1 → billion ≡ number_in W i
-unfolding number_in
-number_1 W i e = sym (ap (number_in W) e)
-
 pub number_slot : (W : List ℕ) (i : ℕ) → 2 ≤ i → number_in W i ≡ get_or W (i - 2) 0
 unfolding number_in
 number_slot W zero h = absurd (omega arith)

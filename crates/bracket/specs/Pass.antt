@@ -1,6 +1,6 @@
 -- What the pass over the nodes stores: the number of each node, by one of the two roundings.
 -- Assumes nothing.
-use Rattle.std.specs.Prelude.{◌≡◌, false, List, ℕ, zero, suc, ◌-◌, ◌≤◌, ◌<◌, length, get_or}
+use Rattle.std.specs.Prelude.{◌≡◌, false, List, ℕ, zero, suc, ◌+◌, ◌-◌, ◌*◌, ◌/◌, ◌≤◌, ◌<◌, length, get_or}
 use Rattle.paper.specs.Limits.{billion}
 use Rattle.paper.specs.Chance.{bound}
 use Rattle.tables.specs.Table.{den}
@@ -16,6 +16,10 @@ unfoldable pub number_in : List ℕ → ℕ → ℕ
 number_in W zero = 0
 number_in W (suc zero) = billion
 number_in W (suc (suc k)) = get_or W k 0
+
+-- the number of a node whose event has the chance a and whose branches are f and s, by the rounding r
+abbrev pub mixed_in : List ℕ → ℕ → ℕ → ℕ → ℕ → ℕ
+mixed_in W f s a r = (a * number_in W f + (billion - a) * number_in W s + r) / billion
 
 -- the work area has the numbers of all nodes below i
 pub record Filled (r : ℕ) (A T W : List ℕ) (i : ℕ) : Type 0 where

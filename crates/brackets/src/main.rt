@@ -6,14 +6,7 @@ use std::io;
 
 // Whether each number of a work area is `v`.
 fn each_is(work: &[u32], v: u32) -> bool {
-    let mut i = 0;
-    while i < work.len() {
-        if work[i] != v {
-            return false;
-        }
-        i += 1;
-    }
-    true
+    work.iter().all(|x| *x == v)
 }
 
 fn show(
@@ -29,7 +22,10 @@ fn show(
     let mut highs = [7u32; 16];
     let r = bracket::bracket(nodes, n, count, root, chances, &mut lows, &mut highs);
     rt.write_all(name)?;
-    print!(rt; ": {} {} {}", r.number, r.low, r.high)?;
+    match r {
+        Ok(ends) => print!(rt; ": 0 {} {}", ends.low, ends.high)?,
+        Err(why) => print!(rt; ": {} 0 0", why.number())?,
+    }
     if each_is(&lows, 0) && each_is(&highs, 0) {
         print!(rt; " zero")?;
     }

@@ -13,7 +13,9 @@ use Rattle.paper.specs.Trees.{Gate, and_g}
 use Rattle.paper.specs.Steps.{values_from, steps_from}
 use Rattle.paper.specs.Diagrams.{Diagram, leaf}
 use Rattle.algebra.specs.Operations.{join_d, event_d, gate_diagrams, step_diagrams}
+use Rattle.std.specs.Prelude.{Result}
 use Rattle.store.specs.declared.Built.{Built}
+use Rattle.store.specs.declared.Full.{Full}
 use Rattle.gates.specs.Rules.{value_d, steps_d}
 use Rattle.paper.specs.Flat.{input_of, gate_of, gates_of}
 use Rattle.build.specs.Memory.{start_of, gate_at, Plan}
@@ -98,7 +100,7 @@ module _ {kinds leasts sizes inputs : List ℕ} (p : Plan kinds leasts sizes inp
   own_is : own ≡ take (get_or sizes g 0) (drop (start_of sizes g) inputs)
   own_is = ap₂ (λ n i. take n (drop i inputs)) short e
 
-  pub gate_is : (gs : List Diagram) (T : List ℕ) (c : ℕ) (T' H' X' M' : List ℕ) (r : Built)
+  pub gate_is : (gs : List Diagram) (T : List ℕ) (c : ℕ) (T' H' X' M' : List ℕ) (r : Result Built Full)
       → Gains (steps_d gs (gate_of (get_or kinds g 0) (get_or leasts g 0) (map input_of (take (at + get_or sizes g 0 - at) (drop at inputs)))))
       (value_d gs (gate_of (get_or kinds g 0) (get_or leasts g 0) (map input_of (take (at + get_or sizes g 0 - at) (drop at inputs))))) T c T' H' X' M' r
       → Gains (steps_d gs (gate_at kinds leasts sizes inputs g)) (value_d gs (gate_at kinds leasts sizes inputs g)) T c T' H' X' M' r

@@ -28,7 +28,9 @@ use Rattle.paper.specs.Flat.{gates_of}
 use Rattle.build.specs.Memory.{start_of, gate_at}
 use Rattle.atleast.specs.Making.{All, Within, Gained}
 use Rattle.build.specs.Finishing.{added_by, AddedTo, Areas, Sofar, Whole, TooMany, Finishes}
-use Rattle.build.specs.declared.Finish.{Finish}
+use Rattle.std.specs.Prelude.{Result}
+use Rattle.store.specs.declared.Built.{Built}
+use Rattle.build.specs.declared.Over.{Over}
 use Rattle.atleast.proofs.Making.{found_0, all_none, all_append, all_grown, part_more}
 use Rattle.gates.proofs.ByKind.{value_same, steps_same}
 use Rattle.build.proofs.Gates.{gates_length, gates_next, sum_next, diagrams_next, steps_next, diagrams_length}
@@ -234,5 +236,5 @@ sofar_cleared s M₀ G₀ A₀ {T₀} {H₀} {T} {H} {X} {M} {G} {A} a p q r e d
     (subst (λ A. Sofar s 0 (replicate (length G₀) 0) A (replicate (length T₀) 0) (replicate (length H₀) 0) X (replicate (length M₀) 0) 0) (sym d)
     (sofar_none s (length T₀) (length H₀) M₀ (length G₀) (length A₀) X a.small a.linked a.chains l)))))
 
-pub same_room : (s : List Gate) (G A T H X : List ℕ) (r : Finish) {n m : ℕ} → n ≡ m → Finishes s (n / 3) G A T H X r → Finishes s (m / 3) G A T H X r
+pub same_room : (s : List Gate) (G A T H X : List ℕ) (r : Result Built Over) {n m : ℕ} → n ≡ m → Finishes s (n / 3) G A T H X r → Finishes s (m / 3) G A T H X r
 same_room s G A T H X r e f = subst (λ n. Finishes s (n / 3) G A T H X r) e f

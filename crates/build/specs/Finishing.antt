@@ -1,6 +1,6 @@
 -- What building all gates of a tree answers.
 -- Assumes nothing.
-use Rattle.std.specs.Prelude.{◌≡◌, false, List, ℕ, ◌+◌, ◌-◌, ◌*◌, ◌≤◌, ◌<◌, length, get_or, take}
+use Rattle.std.specs.Prelude.{◌≡◌, false, List, ℕ, ◌+◌, ◌-◌, ◌*◌, ◌≤◌, ◌<◌, length, get_or, take, Result, Ok, Err}
 use Rattle.paper.specs.Limits.{most_numbers}
 use Rattle.paper.specs.Trees.{Gate}
 use Rattle.paper.specs.Diagrams.{leaf}
@@ -8,8 +8,8 @@ use Rattle.algebra.specs.Operations.{node_count, gate_diagrams, step_diagrams}
 use Rattle.store.specs.Store.{Store}
 use Rattle.store.specs.Building.{PartOf, Found, Only, Tidy}
 use Rattle.atleast.specs.Making.{All, Held}
-use Rattle.build.specs.declared.Finish.{Finish}
-use Rattle.build.specs.declared.Finish.TheVariants.{Complete, Over}
+use Rattle.store.specs.declared.Built.{Built}
+use Rattle.build.specs.declared.Over.{Over}
 
 -- the lengths of the table and of the areas beside it
 pub record Areas (T H X : List ℕ) : Type 0 where
@@ -53,6 +53,6 @@ pub record TooMany (t : List Gate) (room g : ℕ) : Type 0 where
   pub before : node_count (step_diagrams (take g t)) ≤ room
   pub over : room < node_count (step_diagrams (take (g + 1) t))
 
-abbrev pub Finishes : (t : List Gate) (room : ℕ) (G A T H X : List ℕ) → Finish → Type 0
-Finishes t room G A T H X (Complete root c) = Whole t G A T H X root c
-Finishes t room G A T H X (Over g) = TooMany t room g
+abbrev pub Finishes : (t : List Gate) (room : ℕ) (G A T H X : List ℕ) → Result Built Over → Type 0
+Finishes t room G A T H X (Ok b) = Whole t G A T H X b.node b.count
+Finishes t room G A T H X (Err x) = TooMany t room x.gate

@@ -11,14 +11,12 @@ ghost use Rattle.atleast.specs.Making.{Within, Held, Gains};
 ghost use Rattle.build.specs.Finishing.{Areas, Sofar, Finishes};
 
 use records::Tree;
-use store::Built;
-use tables::clear;
+use store::{Built, Full};
 
-// All gates are built: the root's node and the count of nodes; or the gate at which the table was full.
-#[derive(Clone, Copy)]
-pub enum Finish {
-    Complete(u32, usize),
-    Over(usize),
+// The table was full at this gate.
+#[derive(Clone, Copy, PartialEq, Eq, Debug)]
+pub struct Over {
+    pub gate: usize,
 }
 
 // The node of gate g of a tree, whose inputs start at `at`.
@@ -35,7 +33,7 @@ fn next_gate(
     count: usize,
     g: usize,
     at: usize,
-) -> Built
+) -> Result<Built, Full>
     requires held { Held nodes.old heads.old next.old memo.old count }
     requires within { Within count gates.now }
     requires plan { Plan kinds.now leasts.now sizes.now inputs.now }
@@ -70,33 +68,27 @@ fn build_gates(
     leasts: &[u8],
     sizes: &[u8],
     inputs: &[u16],
-) -> Finish
+) -> Result<Built, Over>
     requires plan { Plan kinds.now leasts.now sizes.now inputs.now }
     requires sizes_in_bounds { length sizes.now ≤ length gates.old }
     requires sizes_in_bounds_2 { length sizes.now ≤ length added.old }
     requires sofar { Sofar (gates_of kinds.now leasts.now 0 sizes.now inputs.now) 0 gates.old added.old nodes.old heads.old next.old memo.old 0 }
     ensures { Finishes (gates_of kinds.now leasts.now 0 sizes.now inputs.now) (length nodes.old / 3) gates.new added.new nodes.new heads.new next.new result }
 {
-    let mut g = 0;
     let mut at = 0;
-    let mut count = 0;
-    let mut root = 0;
-    while g < sizes.len() {
-        match next_gate(
-            nodes, heads, next, memo, gates, kinds, leasts, sizes, inputs, count, g, at,
-        ) {
-            Built::Done(node, to) => {
-                gates[g] = node;
-                added[g] = (to - count) as u32;
-                root = node;
-                count = to;
-            }
-            Built::Short(full) => return Finish::Over(g),
-        }
-        at += sizes[g] as usize;
-        g += 1;
+    let mut last = Built { node: 0, count: 0 };
+    for (g, size) in sizes.iter().enumerate() {
+        let Ok(built) = next_gate(
+            nodes, heads, next, memo, gates, kinds, leasts, sizes, inputs, last.count, g, at,
+        ) else {
+            return Err(Over { gate: g });
+        };
+        gates[g] = built.node;
+        added[g] = (built.count - last.count) as u32;
+        last = built;
+        at += *size as usize;
     }
-    Finish::Complete(root, count)
+    Ok(last)
 }
 
 // The diagrams of all gates of a tree, over whatever the lent memory holds.
@@ -111,7 +103,7 @@ fn build_over(
     leasts: &[u8],
     sizes: &[u8],
     inputs: &[u16],
-) -> Finish
+) -> Result<Built, Over>
     requires areas { Areas nodes.old heads.old next.old }
     requires plan { Plan kinds.now leasts.now sizes.now inputs.now }
     requires sizes_in_bounds { length sizes.now ≤ length gates.old }
@@ -119,11 +111,11 @@ fn build_over(
     requires places { Places memo.old }
     ensures { Finishes (gates_of kinds.now leasts.now 0 sizes.now inputs.now) (length nodes.old / 3) gates.new added.new nodes.new heads.new next.new result }
 {
-    clear(nodes);
-    clear(heads);
-    clear(memo);
-    clear(gates);
-    clear(added);
+    nodes.fill(0);
+    heads.fill(0);
+    memo.fill(0);
+    gates.fill(0);
+    added.fill(0);
     build_gates(
         nodes, heads, next, memo, gates, added, kinds, leasts, sizes, inputs,
     )
@@ -142,7 +134,7 @@ fn build(
     leasts: &[u8],
     sizes: &[u8],
     inputs: &[u16],
-) -> Finish
+) -> Result<Built, Over>
     requires areas { Areas nodes.old heads.old next.old }
     requires plan { Plan kinds.now leasts.now sizes.now inputs.now }
     requires sizes_in_bounds { length sizes.now ≤ length gates.old }
@@ -179,7 +171,7 @@ pub fn build_tree(
     memo: &mut [u32],
     gates: &mut [u32],
     added: &mut [u32],
-) -> Finish
+) -> Result<Built, Over>
     requires arrays { Arrays tree }
     requires areas { Areas nodes.old heads.old next.old }
     requires gate_count_in_bounds { tree.gate_count ≤ length gates.old }

@@ -1,6 +1,6 @@
 -- What the numbers of a comparison mean; one answer; and what it has to do with the side.
 -- Assumes nothing.
-use mathlib.Core.Path.{◌≡◌, sym, ap, ap₂, ◌∙◌, subst}
+use mathlib.Core.Path.{◌≡◌, refl, sym, ap, ap₂, ◌∙◌, subst}
 use mathlib.Core.Logic.{◌↔◌}
 use mathlib.Core.Bool.{true}
 use mathlib.Core.List.{List, map, List-discrete}
@@ -15,16 +15,18 @@ use Rattle.paper.specs.GoodListing.{Tells, Good}
 use Rattle.paper.specs.Changes.{stands, gone, kept, Counts}
 use Rattle.algebra.proofs.Lists.{in_map, map_in, in_has, has_in}
 use Rattle.sidebyside.specs.Members.{cuts_bytes}
-use Rattle.sidebyside.specs.Merging.{gone_of, kept_of}
+use Rattle.sidebyside.specs.Merging.{gone_of, kept_of, Tallies}
 use Rattle.sidebyside.specs.Sided.{side_answer}
-use Rattle.sidebyside.specs.declared.Which.{Which}
-use Rattle.sidebyside.specs.declared.Which.TheVariants.{Equal, Yesterday, Today, BadYesterday, BadToday}
+use Rattle.std.specs.Prelude.{Option, None, Some, Result, Ok, Err}
+use Rattle.sidebyside.specs.declared.Side.{Side}
+use Rattle.sidebyside.specs.declared.Numbers.{Numbers}
+use Rattle.sidebyside.specs.declared.Side.TheVariants.{Yesterday, Today}
 use Rattle.sidebyside.proofs.Sets.{of_members}
 use Rattle.sidebyside.proofs.Telling.{tells_once, good_once, good_held}
 use Rattle.sidebyside.proofs.Counting.{gone_kept, kept_flip, none_changed, gone_self}
 use Rattle.sidebyside.proofs.Merging.{gone_cuts, kept_cuts}
-use Rattle.changes.specs.Answers.{Sides, Compares, bad_yesterday, bad_today, counted}
-use Rattle.changes.specs.declared.Compared.{Compared}
+use Rattle.changes.specs.Answers.{Compared, Sides, Compares, refused_of, compared_of, refused, counted}
+use Rattle.changes.proofs.Once.{fault_once, fault_bad}
 
 -- the test says whether the set stands there
 pub stands_so : (S : Set) (l : List Set) → Within limits.events S → ((T : Set) → In T l → Within limits.events T) → (stands l S ≡ true) ↔ In S l
@@ -78,7 +80,7 @@ module _ {y t : List ℕ} {g n k : ℕ} (w : Counts y t g n k) where
         comes ∙ ap (gone_of ts) same ∙ gone_self ts (good_held w.other).rows,
       )
 
-  pub equal_exactly : Sides y t Equal ↔ ((g ≡ 0) × (n ≡ 0))
+  pub equal_exactly : Sides y t (Ok None) ↔ ((g ≡ 0) × (n ≡ 0))
   equal_exactly = ((λ s. none s.1), λ z. (w.good, unchanged z))
 
 pub counts_once : {y t : List ℕ} {g n k g' n' k' : ℕ} → Counts y t g n k → Counts y t g' n' k' → (g ≡ g') × (n ≡ n') × (k ≡ k')
@@ -87,40 +89,33 @@ counts_once v w =
     let d = good_once v.other w.other in
     (v.are_gone ∙ ap₂ gone e d ∙ sym w.are_gone, v.are_new ∙ ap₂ gone d e ∙ sym w.are_new, v.are_kept ∙ ap₂ kept e d ∙ sym w.are_kept)
 
+pub compared_now : {y t : List ℕ} (r : Result Numbers Side) → Tallies y t r → Compares y t (compared_of r)
+compared_now (Ok n) c = counted c refl refl refl
+compared_now (Err s) f = refused s f refl
+
 made : ℕ → ℕ → ℕ → ℕ → ℕ → ℕ → Compared
 made number place side gone new kept = record { number = number; place = place; side = side; gone = gone; new = new; kept = kept }
 
 -- ONE ANSWER
 pub compares_once : {y t : List ℕ} {r s : Compared} → Compares y t r → Compares y t s → r ≡ s
 unfolding made
-compares_once (bad_yesterday a p) (bad_yesterday b q) = p ∙ sym q
-compares_once (bad_yesterday a p) (bad_today g b q) = absurd (a g)
-compares_once (bad_yesterday a p) (counted c q u v) = absurd (a c.good)
-compares_once (bad_today g a p) (bad_yesterday b q) = absurd (b g)
-compares_once (bad_today g a p) (bad_today h b q) = p ∙ sym q
-compares_once (bad_today g a p) (counted c q u v) = absurd (a c.other)
-compares_once (counted c p u v) (bad_yesterday b q) = absurd (b c.good)
-compares_once (counted c p u v) (bad_today h b q) = absurd (b c.other)
+compares_once {y} {t} (refused v a p) (refused w b q) = p ∙ ap refused_of (fault_once y t v w a b) ∙ sym q
+compares_once {y} {t} (refused v a p) (counted c q u w) = absurd (fault_bad y t v a c.good c.other)
+compares_once {y} {t} (counted c p u v) (refused w b q) = absurd (fault_bad y t w b c.good c.other)
 compares_once {r = r} {s = s} (counted c p u v) (counted d q m n) = let (x, y, z) = counts_once c d in same r s (p ∙ sym q) (u ∙ sym m) (v ∙ sym n) x y z
   where
     same : (r s : Compared) → r.number ≡ s.number → r.place ≡ s.place → r.side ≡ s.side → r.gone ≡ s.gone → r.new ≡ s.new → r.kept ≡ s.kept → r ≡ s
     same r s a b c d e f = let q : made r.number r.place r.side r.gone r.new r.kept ≡ made s.number s.place s.side s.gone s.new s.kept = cc in q
 
 -- THE NUMBER is the one that the side says, and in a refusal so is the side of the fault
-pub compared_side : {y t : List ℕ} {r : Compared} (v : Which) → Compares y t r → Sides y t v → (r.number ≡ (side_answer v).number) × (r.place ≡ (side_answer v).place)
+pub compared_side : {y t : List ℕ} {r : Compared} (v : Result (Option Side) Side) → Compares y t r → Sides y t v → (r.number ≡ (side_answer v).number) × (r.place ≡ (side_answer v).place)
     × (r.number ≡ 20 → r.side ≡ (side_answer v).side)
-compared_side Equal (bad_yesterday a p) s = absurd (a s.0)
-compared_side Equal (bad_today g a p) s = absurd (a (subst Good s.1 s.0))
-compared_side Equal (counted c p u q) s = (p, u, λ z. absurd (omega (arith, p, z)))
-compared_side Yesterday (bad_yesterday a p) (b, e, s) = absurd (a s.good)
-compared_side Yesterday (bad_today g a p) (b, e, s) = absurd (a s.other)
-compared_side Yesterday (counted c p u q) s = (p, u, λ z. absurd (omega (arith, p, z)))
-compared_side Today (bad_yesterday a p) (b, e, s) = absurd (a s.other)
-compared_side Today (bad_today g a p) (b, e, s) = absurd (a s.good)
-compared_side Today (counted c p u q) s = (p, u, λ z. absurd (omega (arith, p, z)))
-compared_side BadYesterday (bad_yesterday a p) s = (ap (λ (x : Compared). x.number) p, ap (λ (x : Compared). x.place) p, λ _. ap (λ (x : Compared). x.side) p)
-compared_side BadYesterday (bad_today g a p) s = absurd (s g)
-compared_side BadYesterday (counted c p u q) s = absurd (s c.good)
-compared_side BadToday (bad_yesterday a p) s = absurd (a s.0)
-compared_side BadToday (bad_today g a p) s = (ap (λ (x : Compared). x.number) p, ap (λ (x : Compared). x.place) p, λ _. ap (λ (x : Compared). x.side) p)
-compared_side BadToday (counted c p u q) s = absurd (s.1 c.other)
+compared_side {y} {t} (Ok None) (refused w a p) s = absurd (fault_bad y t w a s.0 (subst Good s.1 s.0))
+compared_side {y} {t} (Ok (Some Yesterday)) (refused w a p) (b, e, s) = absurd (fault_bad y t w a s.good s.other)
+compared_side {y} {t} (Ok (Some Today)) (refused w a p) (b, e, s) = absurd (fault_bad y t w a s.other s.good)
+compared_side {y} {t} (Err v) (refused w a p) s =
+    let q = p ∙ ap refused_of (fault_once y t w v a s) in
+    (ap (λ (x : Compared). x.number) q, ap (λ (x : Compared). x.place) q, λ _. ap (λ (x : Compared). x.side) q)
+compared_side (Ok None) (counted c p u q) s = (p, u, λ z. absurd (omega (arith, p, z)))
+compared_side (Ok (Some v)) (counted c p u q) s = (p, u, λ z. absurd (omega (arith, p, z)))
+compared_side {y} {t} (Err v) (counted c p u q) s = absurd (fault_bad y t v s c.good c.other)

@@ -15,8 +15,10 @@ use Rattle.paper.specs.Changes.{FirstSet, Shows}
 use Rattle.algebra.proofs.Lists.{in_right}
 use Rattle.algebra.proofs.Order.{before_irrefl, before_trans}
 use Rattle.algebra.proofs.Listing.{sorted_once}
-use Rattle.sidebyside.specs.declared.Which.{Which}
-use Rattle.sidebyside.specs.declared.Which.TheVariants.{Equal, Yesterday, Today, BadYesterday, BadToday}
+use Rattle.std.specs.Prelude.{Option, None, Some, Result, Ok, Err}
+use Rattle.sidebyside.specs.Sided.{Fault}
+use Rattle.sidebyside.specs.declared.Side.{Side}
+use Rattle.sidebyside.specs.declared.Side.TheVariants.{Yesterday, Today}
 use Rattle.sidebyside.proofs.Telling.{tells_once, good_once}
 use Rattle.changes.specs.Answers.{Sides, Stretch, Part, Parted}
 
@@ -80,36 +82,38 @@ shows_once v w =
 -- ---- ONE SIDE
 
 module _ (y t : List ℕ) where
-  pub side_once : (v w : Which) → Sides y t v → Sides y t w → v ≡ w
-  side_once Equal Equal p q = refl
-  side_once Equal BadYesterday p q = absurd (q p.0)
-  side_once Equal BadToday p q = absurd (q.1 (subst Good p.1 p.0))
-  side_once Equal Yesterday p (a, e, s) = absurd (shows_apart s p.1)
-  side_once Equal Today p (a, e, s) = absurd (shows_apart s (sym p.1))
-  side_once BadYesterday Equal p q = absurd (p q.0)
-  side_once BadYesterday BadYesterday p q = refl
-  side_once BadYesterday BadToday p q = absurd (p q.0)
-  side_once BadYesterday Yesterday p (a, e, s) = absurd (p s.good)
-  side_once BadYesterday Today p (a, e, s) = absurd (p s.other)
-  side_once BadToday Equal p q = absurd (p.1 (subst Good q.1 q.0))
-  side_once BadToday BadYesterday p q = absurd (q p.0)
-  side_once BadToday BadToday p q = refl
-  side_once BadToday Yesterday p (a, e, s) = absurd (p.1 s.other)
-  side_once BadToday Today p (a, e, s) = absurd (p.1 s.good)
-  side_once Yesterday Equal (a, e, s) q = absurd (shows_apart s q.1)
-  side_once Yesterday BadYesterday (a, e, s) q = absurd (q s.good)
-  side_once Yesterday BadToday (a, e, s) q = absurd (q.1 s.other)
-  side_once Yesterday Yesterday p q = refl
-  side_once Yesterday Today (a, e, s) (b, d, r) = absurd (shows_cross s r)
-  side_once Today Equal (a, e, s) q = absurd (shows_apart s (sym q.1))
-  side_once Today BadYesterday (a, e, s) q = absurd (q s.other)
-  side_once Today BadToday (a, e, s) q = absurd (q.1 s.good)
-  side_once Today Yesterday (a, e, s) (b, d, r) = absurd (shows_cross s r)
-  side_once Today Today p q = refl
+  pub fault_once : (v w : Side) → Fault y t v → Fault y t w → v ≡ w
+  fault_once Yesterday Yesterday p q = refl
+  fault_once Yesterday Today p q = absurd (p q.0)
+  fault_once Today Yesterday p q = absurd (q p.0)
+  fault_once Today Today p q = refl
+
+  -- what a fault refuses
+  pub fault_bad : (v : Side) → Fault y t v → Good y → Good t → ⊥
+  fault_bad Yesterday p g h = p g
+  fault_bad Today p g h = p.1 h
+
+  pub side_once : (v w : Result (Option Side) Side) → Sides y t v → Sides y t w → v ≡ w
+  side_once (Ok None) (Ok None) p q = refl
+  side_once (Ok None) (Err w) p q = absurd (fault_bad w q p.0 (subst Good p.1 p.0))
+  side_once (Ok None) (Ok (Some Yesterday)) p (a, e, s) = absurd (shows_apart s p.1)
+  side_once (Ok None) (Ok (Some Today)) p (a, e, s) = absurd (shows_apart s (sym p.1))
+  side_once (Err v) (Ok None) p q = absurd (fault_bad v p q.0 (subst Good q.1 q.0))
+  side_once (Err v) (Err w) p q = ap Err (fault_once v w p q)
+  side_once (Err v) (Ok (Some Yesterday)) p (a, e, s) = absurd (fault_bad v p s.good s.other)
+  side_once (Err v) (Ok (Some Today)) p (a, e, s) = absurd (fault_bad v p s.other s.good)
+  side_once (Ok (Some Yesterday)) (Ok None) (a, e, s) q = absurd (shows_apart s q.1)
+  side_once (Ok (Some Yesterday)) (Err w) (a, e, s) q = absurd (fault_bad w q s.good s.other)
+  side_once (Ok (Some Yesterday)) (Ok (Some Yesterday)) p q = refl
+  side_once (Ok (Some Yesterday)) (Ok (Some Today)) (a, e, s) (b, d, r) = absurd (shows_cross s r)
+  side_once (Ok (Some Today)) (Ok None) (a, e, s) q = absurd (shows_apart s (sym q.1))
+  side_once (Ok (Some Today)) (Err w) (a, e, s) q = absurd (fault_bad w q s.other s.good)
+  side_once (Ok (Some Today)) (Ok (Some Yesterday)) (a, e, s) (b, d, r) = absurd (shows_cross s r)
+  side_once (Ok (Some Today)) (Ok (Some Today)) p q = refl
 
   -- THE PART GOES WITH THE SIDE that the other call answers
-  pub part_of_lem : (part : List ℕ) (v : Which) → Part y t part → Sides y t v → Parted y t part v
-  part_of_lem part v p s = subst (λ (x : Which). Parted y t part x) (side_once p.side v p.sides s) p.is
+  pub part_of_lem : (part : List ℕ) (v : Result (Option Side) Side) → Part y t part → Sides y t v → Parted y t part v
+  part_of_lem part v p s = subst (λ (x : Result (Option Side) Side). Parted y t part x) (side_once p.side v p.sides s) p.is
 
   -- ONE PART
   pub part_once : (p q : List ℕ) → Part y t p → Part y t q → p ≡ q
@@ -118,9 +122,8 @@ module _ (y t : List ℕ) where
       stretch : {s u : List ℕ} → Stretch s u p → Stretch s u q → p ≡ q
       stretch {s} v w = let (c, d) = shows_once v.shows w.shows in v.is ∙ ap₂ (λ (i j : ℕ). take (j - i) (drop i s)) c d ∙ sym w.is
 
-      go : (v : Which) → Parted y t p v → Parted y t q v → p ≡ q
-      go Equal u w = u ∙ sym w
-      go BadYesterday u w = u ∙ sym w
-      go BadToday u w = u ∙ sym w
-      go Yesterday u w = stretch u w
-      go Today u w = stretch u w
+      go : (v : Result (Option Side) Side) → Parted y t p v → Parted y t q v → p ≡ q
+      go (Ok None) u w = u ∙ sym w
+      go (Err s) u w = u ∙ sym w
+      go (Ok (Some Yesterday)) u w = stretch u w
+      go (Ok (Some Today)) u w = stretch u w

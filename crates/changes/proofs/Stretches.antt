@@ -12,6 +12,12 @@ use Rattle.paper.specs.Listing.{set_bytes, sets_bytes}
 use Rattle.paper.specs.Changes.{Shows}
 use Rattle.algebra.proofs.Lists.{flat_append}
 use Rattle.sidebyside.proofs.Coding.{cut_some}
+use Rattle.std.specs.Prelude.{Option, Some, Ok}
+use Rattle.sidebyside.specs.Sided.{ShowsIn}
+use Rattle.sidebyside.specs.Finding.{Finds}
+use Rattle.sidebyside.specs.declared.Side.{Side}
+use Rattle.sidebyside.specs.declared.Side.TheVariants.{Yesterday, Today}
+use Rattle.sidebyside.specs.declared.Difference.{Difference}
 use Rattle.changes.specs.Answers.{Stretch}
 
 -- s is what stands before it, the cut, and what stands behind it
@@ -48,3 +54,12 @@ shows_bytes {s} {a = a} {e} w =
 -- so a part that shows a difference is never empty
 pub stretch_some : {s u part : List ℕ} → Stretch s u part → 0 < length part
 stretch_some v = subst (λ (t : List ℕ). 0 < length t) (sym (v.is ∙ shows_bytes v.shows)) (set_some v.shows.set)
+
+-- what was found, by its side
+pub shows_in : (y t : List ℕ) {f : Option Difference} {d : Difference} {s : Side} → Finds y t (Ok f) → f ≡ Some d → d.side ≡ s → ShowsIn y t s d.start d.end
+shows_in y t {f} {d} h q e = subst (λ (s : Side). ShowsIn y t s d.start d.end) e (subst (λ (x : Option Difference). Finds y t (Ok x)) q h)
+
+-- it is no less than its start, whose it may be
+pub shows_in_low : (y t : List ℕ) (s : Side) {a e : ℕ} → ShowsIn y t s a e → a ≤ e
+shows_in_low y t Yesterday w = shows_low w
+shows_in_low y t Today w = shows_low w

@@ -2,14 +2,15 @@
 // tables with room for a node or a cut node less. All memory comes dirty.
 #![tactic(auto)]
 
-ghost use Rattle.std.specs.Prelude.{◌≡◌, ◌%◌, ◌^◌, ◌≤◌, true, length};
+ghost use Rattle.std.specs.Prelude.{◌≡◌, ◌%◌, ◌^◌, ◌≤◌, true, length, Ok};
 ghost use Rattle.std.specs.Io.{ReadsAtMost};
 ghost use Rattle.paper.specs.Cuts.{sets_of};
 ghost use Rattle.tables.specs.Table.{den};
 ghost use Rattle.tables.specs.Lent.{Lent};
+ghost use Rattle.memory.specs.Analysis.{analysis_of};
 ghost use Rattle.followup.specs.Tops.{Held};
 
-use memory::Analysis;
+use memory::Tables;
 use records::Tree;
 use std::io::Read;
 use std::rt::Files;
@@ -29,10 +30,6 @@ fn say(rt: &impl Print, word: &[u8], n: u64) -> io::Result<()> {
     rt.print(n)
 }
 
-fn say_number(rt: &impl Print, word: &[u8], n: u8) -> io::Result<()> {
-    say(rt, word, n as u64)
-}
-
 // How many cuts a cut diagram has, room by room; the sum wraps at 2^64.
 fn count_cuts(cuts: &[u32], events: usize, count: usize, root: usize) -> u64
     requires { Lent true events cuts.now count root }
@@ -44,7 +41,7 @@ fn count_cuts(cuts: &[u32], events: usize, count: usize, root: usize) -> u64
     let mut total: u64 = 0;
     loop {
         let r = followup::next_room(cuts, events, count, root, begin, s, &mut room);
-        total = std::num::wrapping_add_u64(total, r.count as u64);
+        total = total.wrapping_add(r.count as u64);
         if r.finished {
             return total;
         }
@@ -57,14 +54,14 @@ fn count_cuts(cuts: &[u32], events: usize, count: usize, root: usize) -> u64
 fn report(
     rt: &impl Print,
     tree: Tree,
-    a: Analysis,
+    a: Tables,
     nodes: &[u32; TABLE],
     cuts: &[u32; TABLE],
     lows: &mut [u32; AREA],
     highs: &mut [u32; AREA],
     listed: bool,
 ) -> io::Result<()>
-    requires { Held tree nodes.now cuts.now a }
+    requires { Held tree nodes.now cuts.now (analysis_of (Ok a)) }
 {
     say(rt, b": nodes ", a.nodes as u64)?;
     say(rt, b", cut nodes ", a.cut_nodes as u64)?;
@@ -92,7 +89,7 @@ fn answered(bytes: &[u8], room: usize, cut_room: usize) -> u8
     let mut own = [7u32; AREA];
     let n = 3 * room;
     let m = 3 * cut_room;
-    let a = analyser::analyse(
+    match analyser::analyse(
         bytes,
         &mut nodes[..n],
         &mut cuts[..m],
@@ -103,27 +100,33 @@ fn answered(bytes: &[u8], room: usize, cut_room: usize) -> u8
         &mut next,
         &mut marks,
         &mut own,
-    );
-    a.number
+    ) {
+        Ok(_) => 0,
+        Err(refused) => refused.why.number(),
+    }
 }
 
 // Says what tables with just enough room are answered, with room for a node less, and for a cut node less.
 fn say_rooms(rt: &impl Print, bytes: &[u8], nodes: usize, cut_nodes: usize) -> io::Result<()>
     requires { (nodes ≤ 20000) × (cut_nodes ≤ 20000) }
 {
-    say_number(rt, b"; just enough: ", answered(bytes, nodes, cut_nodes))?;
+    say(
+        rt,
+        b"; just enough: ",
+        u64::from(answered(bytes, nodes, cut_nodes)),
+    )?;
     if 0 < nodes {
-        say_number(
+        say(
             rt,
             b", a node less: ",
-            answered(bytes, nodes - 1, cut_nodes),
+            u64::from(answered(bytes, nodes - 1, cut_nodes)),
         )?;
     }
     if 0 < cut_nodes {
-        say_number(
+        say(
             rt,
             b", a cut node less: ",
-            answered(bytes, nodes, cut_nodes - 1),
+            u64::from(answered(bytes, nodes, cut_nodes - 1)),
         )?;
     }
     Ok(())
@@ -140,20 +143,22 @@ fn analysed(rt: &impl Print, bytes: &[u8], listed: bool) -> io::Result<()> {
     let mut next = [7u32; AREA];
     let mut marks = [7u32; AREA];
     let mut own = [7u32; AREA];
-    let a = analyser::analyse(
+    let a = match analyser::analyse(
         bytes, &mut nodes, &mut cuts, &mut gates, &mut added, &mut memo, &mut heads, &mut next,
         &mut marks, &mut own,
-    );
-    if a.number != 0 {
-        return say_number(rt, b": refused ", a.number);
-    }
-    let r = analyser::read(bytes);
-    let tree = r.tree;
+    ) {
+        Ok(a) => a,
+        Err(refused) => return say(rt, b": refused ", u64::from(refused.why.number())),
+    };
+    let Ok(tree) = analyser::read(bytes) else {
+        unreachable!()
+    };
     report(rt, tree, a, &nodes, &cuts, &mut heads, &mut next, listed)?;
     say_rooms(rt, bytes, a.nodes, a.cut_nodes)
 }
 
 // Reads until the buffer is full or the input ends: how many bytes it put at the buffer's start.
+// In each program: no crate that the programs share reads input.
 fn fill(input: &mut impl Read, buffer: &mut [u8]) -> io::Result<usize>
     ensures { ReadsAtMost result buffer.new }
 {

@@ -15,7 +15,8 @@ use Rattle.tables.proofs.Den.{den_node}
 use Rattle.store.specs.Store.{Store}
 use Rattle.store.specs.Building.{Is, Part, Found, Step, Stops, Builds}
 use Rattle.store.specs.declared.Built.{Built}
-use Rattle.store.specs.declared.Built.TheVariants.{Done, Short}
+use Rattle.store.specs.declared.Full.{Full}
+use Rattle.std.specs.Prelude.{Result, Ok, Err}
 use Rattle.store.proofs.Denotes.{found_grown}
 use Rattle.store.proofs.Building.{makes_seq, stops_more, stops_seq, step_more}
 use Rattle.without.specs.Without.{Ready, Taken, Takes}
@@ -104,9 +105,9 @@ module _ {C H X : List ℕ} {d : ℕ} {M T O : List ℕ} {i : ℕ} (t : Turn C H
     self_in : (E : Diagram) → Is made E → Part (cuts_d (den T i)) E
     self_in E q = part_self (record { is = q.is ∙ whole; node = q.node })
 
-    pub node_made : (C₂ H₂ X₂ : List ℕ) (R : Built) → Builds (Is made) C₁ d₁ made C₂ H₂ X₂ R → Takes C d T (cuts_d (den T i)) C₂ H₂ X₂ M₁ R
-    node_made C₂ H₂ X₂ (Done r₂ d₂) m = record {
+    pub node_made : (C₂ H₂ X₂ : List ℕ) (R : Result Built Full) → Builds (Is made) C₁ d₁ made C₂ H₂ X₂ R → Takes C d T (cuts_d (den T i)) C₂ H₂ X₂ M₁ R
+    node_made C₂ H₂ X₂ (Ok R) m = record {
       made = makes_seq step_1 (record { step = step_more self_in m.step; found = record { within = m.found.within; is = m.found.is ∙ whole } });
       memo = right_grown w.made.step.store m.step.grown w.memo;
     }
-    node_made C₂ H₂ X₂ (Short d₂) m = stops_seq step_1 (stops_more self_in m)
+    node_made C₂ H₂ X₂ (Err x) m = stops_seq step_1 (stops_more self_in m)

@@ -30,14 +30,6 @@ use Rattle.cuts.specs.Reach.{Reached, here, failed, sound}
 use Rattle.cuts.specs.Cutting.{families, cut_nodes, CutTable, Room, Turn, Halfway, Base}
 use Rattle.cuts.proofs.Marks.{held_low, failed_below, sound_below, reached_low, reached_sub, sub_reached}
 
--- the areas keep their lengths
-pub record Lengths (C₀ H₀ X₀ M₀ O₀ C H X M O : List ℕ) : Type 0 where
-  pub cut : length C ≡ length C₀
-  pub heads : length H ≡ length H₀
-  pub next : length X ≡ length X₀
-  pub memo : length M ≡ length M₀
-  pub own : length O ≡ length O₀
-
 pub room_marks : {C H X K K' O : List ℕ} {root : ℕ} → length K' ≡ length K → Room C H X K O root → Room C H X K' O root
 room_marks q r = record { small = r.small; linked = r.linked; chains = r.chains; marks = omega (arith, r.marks); own = r.own; leaves = r.leaves }
 

@@ -1,7 +1,7 @@
 -- The minimal cuts of every function that the root's diagram holds, in a cut table C of d nodes; K marks the numbers of the node table T
 -- that the root reaches, and O has the cut number of each of them.
 -- Assumes nothing.
-use Rattle.std.specs.Prelude.{◌≡◌, List, map, ℕ, ◌+◌, ◌*◌, ◌/◌, ◌<◌, ◌≤◌, length, get_or}
+use Rattle.std.specs.Prelude.{◌≡◌, List, map, ℕ, ◌+◌, ◌*◌, ◌/◌, ◌<◌, ◌≤◌, length, get_or, Result, Ok, Err}
 use Rattle.paper.specs.Limits.{most_numbers}
 use Rattle.paper.specs.Lists.{keep}
 use Rattle.paper.specs.Diagrams.{Diagram}
@@ -12,7 +12,7 @@ use Rattle.store.specs.Store.{Store}
 use Rattle.store.specs.Building.{PartOf, Found, Has, Only}
 use Rattle.store.specs.Memo.{Memo}
 use Rattle.store.specs.declared.Built.{Built}
-use Rattle.store.specs.declared.Built.TheVariants.{Done, Short}
+use Rattle.store.specs.declared.Full.{Full}
 use Rattle.without.specs.Reading.{Readable}
 use Rattle.without.specs.Without.{Right}
 use Rattle.cuts.specs.Reach.{Marked}
@@ -38,9 +38,9 @@ pub record CutTable (D : Diagram) (C H X : List ℕ) (d r : ℕ) : Type 0 where
   pub count : d ≡ cut_nodes D
 
 -- done, or the wanted nodes exceed the capacity
-abbrev pub Cuts : (D : Diagram) (C H X : List ℕ) → Built → Type 0
-Cuts D C H X (Done r d) = CutTable D C H X d r
-Cuts D C H X (Short d) = length C / 3 < cut_nodes D
+abbrev pub Cuts : (D : Diagram) (C H X : List ℕ) → Result Built Full → Type 0
+Cuts D C H X (Ok b) = CutTable D C H X b.count b.node
+Cuts D C H X (Err x) = length C / 3 < cut_nodes D
 
 -- ---- on the way
 
@@ -77,6 +77,6 @@ pub record Base (T K : List ℕ) (root : ℕ) : Type 0 where
   pub long : root < length K
 
 -- one number further, or full
-abbrev pub Steps : (T K : List ℕ) (root : ℕ) (C H X M O : List ℕ) (i : ℕ) → Built → Type 0
-Steps T K root C H X M O i (Done r d) = Halfway T K root C H X d M O (i + 1)
-Steps T K root C H X M O i (Short d) = length C / 3 < cut_nodes (den T root)
+abbrev pub Steps : (T K : List ℕ) (root : ℕ) (C H X M O : List ℕ) (i : ℕ) → Result ℕ Full → Type 0
+Steps T K root C H X M O i (Ok d) = Halfway T K root C H X d M O (i + 1)
+Steps T K root C H X M O i (Err x) = length C / 3 < cut_nodes (den T root)

@@ -11,11 +11,13 @@ ghost use Rattle.without.specs.Without.{Takes};
 ghost use Rattle.cuts.specs.Reach.{Marked, Spread};
 ghost use Rattle.cuts.specs.Cutting.{Cuts, Room, Turn, Halfway, Base, Steps};
 
-use store::Built;
+use store::{Built, Full};
 
 // ---- the numbers that a root reaches
 
 // Marks the branches of node i where it is marked itself.
+// By hand: `sizes` does the same in words of 64 bits, which C lends it for its counts; one function over both widths would promise of the marks' values,
+// and each caller would have to read that back.
 fn mark_branches(nodes: &[u32], marks: &mut [u32], i: usize)
     requires held { Held nodes.now i }
     requires le_i { 2 ≤ i }
@@ -37,12 +39,10 @@ pub fn mark(nodes: &[u32], marks: &mut [u32], root: usize)
     requires root_in_bounds { root < length marks.old }
     ensures { Marked nodes.now root marks.new }
 {
-    tables::clear(marks);
+    marks.fill(0);
     marks[root] = 1;
-    let mut i = root;
-    while 2 <= i {
+    for i in (2..root + 1).rev() {
         mark_branches(nodes, marks, i);
-        i -= 1;
     }
 }
 
@@ -58,7 +58,7 @@ fn cut_node(
     own: &[u32],
     count: usize,
     i: usize,
-) -> Built
+) -> Result<Built, Full>
     requires { Turn cut.old heads.old next.old count memo.old nodes.now own.now i }
     ensures { Takes cut.old count nodes.now (cuts_d (den nodes.now i)) cut.new heads.new next.new memo.new result }
 {
@@ -68,13 +68,11 @@ fn cut_node(
     let h = nodes[at + 2];
     let f = own[g as usize];
     let s = own[h as usize];
-    match without::without(cut, heads, next, memo, nodes, count, f, h) {
-        Built::Short(c) => Built::Short(c),
-        Built::Done(r, c) => store::make_z(cut, heads, next, c, e, r, s),
-    }
+    let b = without::without(cut, heads, next, memo, nodes, count, f, h)?;
+    store::make(cut, heads, next, b.count, e, b.node, s, 0)
 }
 
-// The same where the root reaches number i, and its cut number is kept.
+// The same where the root reaches number i, and its cut number is kept; answers the count of nodes.
 fn cut_step(
     cut: &mut [u32],
     heads: &mut [u32],
@@ -86,22 +84,18 @@ fn cut_step(
     count: usize,
     root: usize,
     i: usize,
-) -> Built
+) -> Result<usize, Full>
     requires base { Base nodes.now marks.now root }
     requires halfway { Halfway nodes.now marks.now root cut.old heads.old next.old count memo.old own.old i }
     requires le_i { (2 ≤ i) × (i ≤ root) × (root < length own.old) }
     ensures { Steps nodes.now marks.now root cut.new heads.new next.new memo.new own.new i result }
 {
     if marks[i] == 0 {
-        return Built::Done(0, count);
+        return Ok(count);
     }
-    match cut_node(cut, heads, next, memo, nodes, own, count, i) {
-        Built::Short(c) => Built::Short(c),
-        Built::Done(r, c) => {
-            own[i] = r;
-            Built::Done(r, c)
-        }
-    }
+    let b = cut_node(cut, heads, next, memo, nodes, own, count, i)?;
+    own[i] = b.node;
+    Ok(b.count)
 }
 
 // The cuts of every number that the root reaches.
@@ -114,26 +108,20 @@ fn cut_all(
     nodes: &[u32],
     marks: &[u32],
     root: usize,
-) -> Built
+) -> Result<Built, Full>
     requires base { Base nodes.now marks.now root }
     requires halfway { Halfway nodes.now marks.now root cut.old heads.old next.old 0 memo.old own.old 2 }
     requires root_in_bounds { root < length own.old }
     ensures { Cuts (den nodes.now root) cut.new heads.new next.new result }
 {
     let mut count = 0;
-    let mut i = 2;
-    while i <= root {
-        match cut_step(cut, heads, next, memo, own, nodes, marks, count, root, i) {
-            Built::Short(c) => {
-                return Built::Short(c);
-            }
-            Built::Done(r, c) => {
-                count = c;
-            }
-        }
-        i += 1;
+    for i in 2..root + 1 {
+        count = cut_step(cut, heads, next, memo, own, nodes, marks, count, root, i)?;
     }
-    Built::Done(own[root], count)
+    Ok(Built {
+        node: own[root],
+        count,
+    })
 }
 
 // The cut table of a node table's root, over whatever the lent memory holds.
@@ -146,15 +134,15 @@ fn cuts_over(
     own: &mut [u32],
     nodes: &[u32],
     root: usize,
-) -> Built
+) -> Result<Built, Full>
     requires readable { Readable nodes.now root }
     requires room { Room cut.old heads.old next.old marks.old own.old root }
     requires places { Places memo.old }
     ensures { Cuts (den nodes.now root) cut.new heads.new next.new result }
 {
-    tables::clear(cut);
-    tables::clear(heads);
-    tables::clear(memo);
+    cut.fill(0);
+    heads.fill(0);
+    memo.fill(0);
     mark(nodes, marks, root);
     own[0] = 0;
     own[1] = 1;
@@ -172,7 +160,7 @@ pub fn build_cuts(
     own: &mut [u32],
     nodes: &[u32],
     root: usize,
-) -> Built
+) -> Result<Built, Full>
     requires readable { Readable nodes.now root }
     requires room { Room cut.old heads.old next.old marks.old own.old root }
     ensures { Cuts (den nodes.now root) cut.new heads.new next.new result }

@@ -2,46 +2,11 @@
 -- Assumes nothing.
 use mathlib.Core.Path.{◌≡◌, sym, ap, ap₂, ◌∙◌}
 use mathlib.Core.List.{List, [], ◌++◌, append_assoc, append-nil}
-use Prim.Native.Nat.{ℕ, ◌+◌, ◌-◌, ◌≤◌, ◌<◌}
-use native.Mathlib.Numerals.{add-one}
+use Prim.Native.Nat.{ℕ, ◌+◌, ◌-◌, ◌≤◌}
 use native.Mathlib.Omega.{arith}
-use lib.ListN.{length, get_or, take, drop, set, length-append, length-drop, take-append-drop}
-use lib.Seq.{length-take-le, take_all, take_at, drop-append-add, drop-drop, paste, paste-zero, paste-suc, length-paste}
+use lib.ListN.{length, take, drop, length-append, length-drop, take-append-drop}
+use lib.Seq.{length-take-le, take_all, take_at, drop-append-add, drop-drop}
 use Rattle.decimals.specs.Places.{Put, Ends}
-
--- ---- a copy in a loop
-
--- the first i bytes of s are copied
-pub record Copied (text : List ℕ) (at : ℕ) (s text' : List ℕ) (i : ℕ) : Type 0 where
-  pub fits : at + length s ≤ length text
-  pub low : i ≤ length s
-  pub is : text' ≡ paste text at s i
-
-pub copy_none : (text : List ℕ) (at : ℕ) (s : List ℕ) → at + length s ≤ length text → Copied text at s text 0
-copy_none text at s h = record { fits = h; low = omega arith; is = paste-zero text at s }
-
-module _ {text : List ℕ} {at : ℕ} {s text' : List ℕ} {i : ℕ} (c : Copied text at s text' i) where
-  pub copy_long : length text' ≡ length text
-  copy_long = let f = c.fits in let l = c.low in ap length c.is ∙ length-paste text at s i (omega arith) l
-
-  pub copy_more : i < length s → Copied text at s (set text' (at + i) (get_or s i 0)) (i + 1)
-  copy_more h =
-      let f = c.fits in
-      record {
-        fits = f;
-        low = omega arith;
-        is = ap (λ (l : List ℕ). set l (at + i) (get_or s i 0)) c.is ∙ paste-suc text at s i 0 (omega arith) h ∙ ap (paste text at s) (sym (add-one i));
-      }
-
-  pub copy_end : length s ≤ i → Put text at s text' (at + i)
-  copy_end h =
-      let f = c.fits in
-      let l = c.low in
-      record {
-        inside = omega arith;
-        to = omega arith;
-        is = c.is ∙ ap (λ (x : List ℕ). take at text ++ x ++ drop (at + i) text) (take_all i s h);
-      }
 
 -- ---- one piece after another
 

@@ -13,12 +13,9 @@ pub fn put(text: &mut [u8], at: usize, s: &[u8]) -> usize
     requires { at + length s.now ≤ length text.old }
     ensures { Put text.old at s.now text.new result }
 {
-    let mut i = 0;
-    while i < s.len() {
-        text[at + i] = s[i];
-        i += 1;
-    }
-    at + i
+    let end = at + s.len();
+    text[at..end].copy_from_slice(s);
+    end
 }
 
 // Writes a number in decimal to the end of a room of 20 bytes: the place of its first digit.
@@ -30,10 +27,10 @@ pub fn digits(n: u64, room: &mut [u8]) -> usize
     let mut at = DIGITS;
     while 10 <= rest {
         at -= 1;
-        room[at] = 48 + (rest % 10) as u8;
+        room[at] = b'0' + (rest % 10) as u8;
         rest /= 10;
     }
     at -= 1;
-    room[at] = 48 + rest as u8;
+    room[at] = b'0' + rest as u8;
     at
 }

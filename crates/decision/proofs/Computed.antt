@@ -13,10 +13,9 @@ use Rattle.sets.specs.Words.{set_of, room}
 use Rattle.sets.proofs.Words.{beyond_room}
 use Rattle.sidebyside.specs.Judge.{cuts_of, judge}
 use Rattle.sidebyside.proofs.Judge.{either, or_left, or_right, judge_held, judge_so, judge_is}
-use Rattle.decision.specs.Answers.{Decides}
+use Rattle.decision.specs.Answers.{Decided, Decides}
 use Rattle.decision.specs.Searching.{any_in}
 use Rattle.decision.specs.Deciding.{answer, decision_of}
-use Rattle.decision.specs.declared.Decided.{Decided}
 use Rattle.decision.proofs.Contains.{refused_now, decided_now}
 use Rattle.decision.proofs.Once.{decides_once}
 
@@ -56,9 +55,9 @@ decides_computed bytes n ws = go (judge bytes) refl (some_event (room ws - n) n 
 
     go : (a : Bool) → judge bytes ≡ a → (b : Bool) → some_event (room ws - n) n (set_of ws) ≡ b
         → Meets (cond a (cond b (answer 13 false) (answer 0 (any_in (cuts_of bytes) (set_of ws)))) (answer 20 false))
-    go false p b q = Decides.bad_listing (λ g. true≢false (sym (judge_is bytes g) ∙ p)) (refused_now 20 (refl, refl, refl))
-    go true p true q = Decides.beyond (judge_so bytes p) (some_beyond (set_of ws) (room ws - n) n q) (refused_now 13 (refl, refl, refl))
-    go true p false q = decided_now (record { cuts = cuts_of bytes; held = judge_held bytes p; is = refl }) (none_beyond ws n q) (refl, refl, refl)
+    go false p b q = Decides.bad_listing (λ g. true≢false (sym (judge_is bytes g) ∙ p)) (refused_now 20)
+    go true p true q = Decides.beyond (judge_so bytes p) (some_beyond (set_of ws) (room ws - n) n q) (refused_now 13)
+    go true p false q = decided_now (record { cuts = cuts_of bytes; held = judge_held bytes p; is = refl }) (none_beyond ws n q)
 
 -- so every answer is this one
 pub as_computed : {bytes : List ℕ} {n : ℕ} {ws : List ℕ} (d : Decided) → Decides bytes n ws d.number d.place d.fails → d ≡ decision_of bytes n ws

@@ -64,12 +64,11 @@ module _ (S : Set) where
 
 -- ---- the answer
 
-pub refused_now : (m : ℕ) {number place : ℕ} {fails : Bool} → (number ≡ m) × (place ≡ 0) × (fails ≡ false) → Refused m number place fails
-refused_now m (p, q, r) = record { is = p; no_place = q; unsaid = r }
+pub refused_now : (m : ℕ) → Refused m m 0 false
+refused_now m = record { is = refl; no_place = refl; unsaid = refl }
 
 -- what the search of the cuts found is said
-pub decided_now : {bytes : List ℕ} {n : ℕ} {ws : List ℕ} {b : Bool} {number place : ℕ} {fails : Bool} → Looked bytes (set_of ws) b → (Beyond n (set_of ws) → ⊥)
-    → (number ≡ 0) × (place ≡ 0) × (fails ≡ b) → Decides bytes n ws number place fails
-decided_now {ws = ws} g h (p, q, r) =
+pub decided_now : {bytes : List ℕ} {n : ℕ} {ws : List ℕ} {b : Bool} → Looked bytes (set_of ws) b → (Beyond n (set_of ws) → ⊥) → Decides bytes n ws 0 0 b
+decided_now {ws = ws} g h =
     let (to, back) = any_contains (set_of ws) g.cuts in
-    Decides.decided _ (held_tells g.held) h (record { is = p; no_place = q; says = ((λ e. to (sym (r ∙ g.is) ∙ e)), λ c. r ∙ g.is ∙ back c) })
+    Decides.decided _ (held_tells g.held) h (record { is = refl; no_place = refl; says = ((λ e. to (sym g.is ∙ e)), λ c. g.is ∙ back c) })

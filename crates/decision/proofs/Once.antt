@@ -12,8 +12,7 @@ use Rattle.paper.specs.Answers.{Beyond}
 use Rattle.algebra.proofs.Lists.{bool_iff}
 use Rattle.sets.specs.Words.{set_of}
 use Rattle.sidebyside.proofs.Telling.{tells_once}
-use Rattle.decision.specs.Answers.{ContainsOne, Refused, Said, Decides}
-use Rattle.decision.specs.declared.Decided.{Decided}
+use Rattle.decision.specs.Answers.{ContainsOne, Decided, Refused, Said, Decides}
 
 good : {bytes : List ℕ} {sets : List Set} → Tells bytes sets → Good bytes
 good {sets = sets} t = record { sets = sets; tells = t }

@@ -1,15 +1,26 @@
 -- What `decides` answers of a listing's bytes, a number of events n, and a set of failures in words.
 -- Assumes nothing.
-use Rattle.std.specs.Prelude.{◌≡◌, ◌↔◌, Bool, true, false, List, ℕ}
+use Rattle.std.specs.Prelude.{◌≡◌, ◌↔◌, Bool, true, false, List, ℕ, Result, Ok, Err}
 use Rattle.paper.specs.Lists.{In}
 use Rattle.paper.specs.Sets.{Set, Part}
 use Rattle.paper.specs.GoodListing.{Tells, Good}
 use Rattle.paper.specs.Answers.{Beyond}
+use Rattle.paper.specs.declared.refusal.Refusal.{Refusal}
 use Rattle.sets.specs.Words.{set_of}
 
 -- THE SET S CONTAINS ONE of the listed cuts l: some listed cut is a part of S
 abbrev pub ContainsOne : List Set → Set → Type 0
 ContainsOne l S = (T : Set) × In T l × Part T S
+
+-- an answer as one row: a number and its place, and whether the set contains a cut, which a refusal does not say
+pub record Decided : Type 0 where
+  pub number : ℕ
+  pub place : ℕ
+  pub fails : Bool
+
+abbrev pub fails_of : Result Bool Refusal → Bool
+fails_of (Ok b) = b
+fails_of (Err _) = false
 
 -- a refusal with number m: nothing is said of the set
 pub record Refused (m number place : ℕ) (fails : Bool) : Type 0 where

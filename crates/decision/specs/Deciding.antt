@@ -5,7 +5,7 @@ use Rattle.paper.specs.Sets.{some_event}
 use Rattle.sets.specs.Words.{set_of, room}
 use Rattle.sidebyside.specs.Judge.{cuts_of, judge}
 use Rattle.decision.specs.Searching.{any_in}
-use Rattle.decision.specs.declared.Decided.{Decided}
+use Rattle.decision.specs.Answers.{Decided}
 
 abbrev pub answer : ℕ → Bool → Decided
 answer k b = record { number = k; place = 0; fails = b }

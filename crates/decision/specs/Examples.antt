@@ -8,7 +8,7 @@ use Rattle.sidebyside.specs.Members.{cuts_bytes}
 use Rattle.sidebyside.specs.Judge.{push, cuts_from, rising_from, before, in_row, judge}
 use Rattle.decision.specs.Searching.{any_in}
 use Rattle.decision.specs.Deciding.{answer, decision_of}
-use Rattle.decision.specs.declared.Decided.{Decided}
+use Rattle.decision.specs.Answers.{Decided}
 
 -- the listing of the paper's case 1, {0, 1} and {1, 2}; with its last byte lost; and with its first cut again behind
 abbrev case1 : List ℕ

@@ -1,13 +1,11 @@
 -- What the search of a listing for a cut in a set finds.
 -- Assumes nothing.
-use Rattle.std.specs.Prelude.{◌≡◌, Bool, false, ◌||◌, List, [], ◌∷◌, ◌++◌, ℕ}
+use Rattle.std.specs.Prelude.{◌≡◌, Bool, false, ◌||◌, List, [], ◌∷◌, ◌++◌, ℕ, Option, None, Some}
 use Rattle.paper.specs.Lists.{every}
 use Rattle.paper.specs.Sets.{Set}
 use Rattle.paper.specs.Listing.{cut_bytes}
 use Rattle.paper.specs.GoodListing.{Good}
 use Rattle.sidebyside.specs.Members.{Held}
-use Rattle.decision.specs.declared.Outcome.{Outcome}
-use Rattle.decision.specs.declared.Outcome.TheVariants.{Fault, Contains}
 
 -- whether every member of one of these cuts is in S
 unfoldable pub any_in : List (List ℕ) → Set → Bool
@@ -25,6 +23,6 @@ pub record Looked (s : List ℕ) (S : Set) (b : Bool) : Type 0 where
   pub is : b ≡ any_in cuts S
 
 -- a bad listing, or what a good one says of S
-abbrev pub Searches : List ℕ → Set → Outcome → Type 0
-Searches s S Fault = Good s → ⊥
-Searches s S (Contains b) = Looked s S b
+abbrev pub Searches : List ℕ → Set → Option Bool → Type 0
+Searches s S None = Good s → ⊥
+Searches s S (Some b) = Looked s S b

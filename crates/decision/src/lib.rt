@@ -3,30 +3,14 @@
 
 ghost use Rattle.std.specs.Prelude.{◌≡◌, ◌<◌, drop};
 ghost use Rattle.paper.specs.Limits.{limits};
+ghost use Rattle.paper.specs.Refusals.{number_of};
 ghost use Rattle.sets.specs.Words.{set_of};
 ghost use Rattle.sidebyside.specs.OneCut.{Whole};
-ghost use Rattle.decision.specs.Answers.{Decides};
+ghost use Rattle.decision.specs.Answers.{fails_of, Decides};
 ghost use Rattle.decision.specs.Searching.{Covers, Searches};
 
+use paper::refusal::Refusal;
 use sidebyside::cut::{first_end, member, next, width};
-
-// What `decides` answers: its number, its place, which is 0 always, and whether the set contains a listed cut; a refusal does not say.
-#[derive(Clone, Copy)]
-pub struct Decided {
-    pub number: u8,
-    pub place: usize,
-    pub fails: bool,
-}
-
-fn answered(number: u8, fails: bool) -> Decided
-    ensures { (result.number ≡ number) × (result.place ≡ 0) × (result.fails ≡ fails) }
-{
-    Decided {
-        number,
-        place: 0,
-        fails,
-    }
-}
 
 // Whether event `e` is a member of the set.
 fn holds(set: &[u64; sets::WORDS], e: usize) -> bool
@@ -53,15 +37,8 @@ fn covers(s: &[u8], at: usize, set: &[u64; sets::WORDS]) -> bool
     true
 }
 
-// What a listing says of a set: nothing, for it has a fault, or whether the set contains one of its cuts.
-#[derive(Clone, Copy)]
-pub enum Outcome {
-    Fault,
-    Contains(bool),
-}
-
-// Judges a listing to its end, cut by cut, and looks into each cut.
-fn search(s: &[u8], set: &[u64; sets::WORDS]) -> Outcome
+// Judges a listing to its end, cut by cut, and looks into each cut: whether the set contains one, or none, for the listing has a fault.
+fn search(s: &[u8], set: &[u64; sets::WORDS]) -> Option<bool>
     ensures { Searches s.now (set_of set.now) result }
 {
     let mut i: usize = 0;
@@ -75,23 +52,20 @@ fn search(s: &[u8], set: &[u64; sets::WORDS]) -> Outcome
         found = found | c;
     }
     if i < s.len() {
-        return Outcome::Fault;
+        return None;
     }
-    Outcome::Contains(found)
+    Some(found)
 }
 
-// Whether the set `s` of failed events contains a cut of the listing.
-pub fn decides(listing: &[u8], events: usize, s: [u64; sets::WORDS]) -> Decided
-    ensures { Decides listing.now events s result.number result.place result.fails }
+// Whether the set `s` of failed events contains a cut of the listing; a refusal does not say.
+pub fn decides(listing: &[u8], events: usize, s: [u64; sets::WORDS]) -> Result<bool, Refusal>
+    ensures { Decides listing.now events s (number_of result) 0 (fails_of result) }
 {
-    let o = search(listing, &s);
-    match o {
-        Outcome::Fault => answered(20, false),
-        Outcome::Contains(fails) => {
-            if sets::lowest(&s, events) < sets::MOST {
-                return answered(13, false);
-            }
-            answered(0, fails)
-        }
+    let Some(fails) = search(listing, &s) else {
+        return Err(Refusal::BadListing);
+    };
+    if sets::lowest(&s, events) < sets::MOST {
+        return Err(Refusal::Beyond);
     }
+    Ok(fails)
 }

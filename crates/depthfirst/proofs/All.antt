@@ -14,8 +14,8 @@ use Rattle.paper.specs.Walks.{Steps, Reaches, Ring, visit, postorder, events_of,
 use Rattle.depthfirst.specs.Inputs.{inputs_of, Arrays}
 use Rattle.depthfirst.specs.Marking.{Rooms, Idle, Clear}
 use Rattle.depthfirst.specs.Answers.{visit_all, Ended, WalksOn, InOrder, Walks, AllInOrder, WalksAll, is_back, Numberable}
-use Rattle.depthfirst.specs.declared.Walked.{Walked}
-use Rattle.depthfirst.specs.declared.Walked.TheVariants.{Done, Back}
+use Rattle.std.specs.Prelude.{Result, Ok, Err}
+use Rattle.depthfirst.specs.declared.RingError.{RingError}
 use Rattle.depthfirst.proofs.Lists.{in_place, slice_in}
 use Rattle.depthfirst.proofs.Marks.{all_le, all_none, all_marked, marks_clear}
 use Rattle.depthfirst.proofs.Order.{ordered_none, ordered_reaches, ordered_ringless}
@@ -61,9 +61,9 @@ module _ (S I : List ℕ) (n root : ℕ) (low : root < n) where
       only z (inl h) = absurd h
       only z (inr h) = h
 
-  pub walks_of : (M K Q : List ℕ) (w : Walked) → n ≤ length M → WalksOn S I n M K Q (λ k. postorder (inputs_of S I) k root) w → Walks S I n root K Q w
-  walks_of M K Q (Done r) l h = in_order M Q r l h
-  walks_of M K Q (Back a e) l h = h
+  pub walks_of : (M K Q : List ℕ) (w : Result ℕ RingError) → n ≤ length M → WalksOn S I n M K Q (λ k. postorder (inputs_of S I) k root) w → Walks S I n root K Q w
+  walks_of M K Q (Ok r) l h = in_order M Q r l h
+  walks_of M K Q (Err e) l h = h
 
 -- ---- the walks from every name
 
@@ -122,9 +122,9 @@ module _ {S I : List ℕ} {n : ℕ} (ar : Arrays S I n) where
   ring_back [] s = absurd s
   ring_back (x ∷ l) s = record { name = x; low = steps_low l x x s; back = record { via = l; steps = s } }
 
-  pub back_exactly : (K Q : List ℕ) (w : Walked) → WalksAll S I n K Q w → (is_back w ≡ true) ↔ LeadsBack (inputs_of S I) n
-  back_exactly K Q (Done r) h = (λ e. absurd (false≢true e), λ b. absurd (h.ringless b.name b.low b.back))
-  back_exactly K Q (Back a e) h = (λ q. ring_back (slice a e K) h.ring, λ b. refl)
+  pub back_exactly : (K Q : List ℕ) (w : Result ℕ RingError) → WalksAll S I n K Q w → (is_back w ≡ true) ↔ LeadsBack (inputs_of S I) n
+  back_exactly K Q (Ok r) h = (λ e. absurd (false≢true e), λ b. absurd (h.ringless b.name b.low b.back))
+  back_exactly K Q (Err e) h = (λ q. ring_back (slice e.from e.to K) h.ring, λ b. refl)
 
 -- ---- what a walk left can be numbered
 

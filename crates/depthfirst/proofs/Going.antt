@@ -28,10 +28,10 @@ pub record Going (S I : List ℕ) (n : ℕ) (M K A Q : List ℕ) (d left : ℕ) 
 
 module _ {S I : List ℕ} {n : ℕ} {M K A Q : List ℕ} {left root : ℕ}
     (room : Rooms n M K A Q) (idle : Idle S I n M Q left) (low : root < n) where
-  pub seen_before : {i : ℕ} → i ≡ root → 2 ≤ get_or M i 0 → Ended S I n M Q left (λ k. visit (inputs_of S I) k (take left Q) root)
-  seen_before e seen = record {
+  pub seen_before : 2 ≤ get_or M root 0 → Ended S I n M Q left (λ k. visit (inputs_of S I) k (take left Q) root)
+  seen_before seen = record {
     idle = idle;
-    is = λ k h. sym (visit_seen (inputs_of S I) k (take left Q) root (idle.marks.two_done root low (subst (λ j. 2 ≤ get_or M j 0) e seen)));
+    is = λ k h. sym (visit_seen (inputs_of S I) k (take left Q) root (idle.marks.two_done root low seen));
   }
 
   root_new : get_or M root 0 < 2 → get_or M root 0 ≡ 0
@@ -42,10 +42,7 @@ module _ {S I : List ℕ} {n : ℕ} {M K A Q : List ℕ} {left root : ℕ}
       go (suc zero) e l = absurd (idle.marks.one_way root low e)
       go (suc (suc v)) e l = omega arith
 
-  module _ {i : ℕ} {M' K' A' : List ℕ} (ei : i ≡ root) (low-mark : get_or M i 0 < 2) (o : Opened S M K A 0 root M' K' A') where
-    new : get_or M root 0 < 2
-    new = subst (λ k. get_or M k 0 < 2) ei low-mark
-
+  module _ {M' K' A' : List ℕ} (new : get_or M root 0 < 2) (o : Opened S M K A 0 root M' K' A') where
     first_frame : frames S I K' A' 1 ≡ over root (inputs_of S I root) none
     first_frame = frames_opened S I o (omega (arith, room.stack)) (omega (arith, room.places))
 

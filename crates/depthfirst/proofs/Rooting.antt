@@ -1,6 +1,6 @@
 -- The look for the root: the inputs of each name are marked, stretch by stretch, and the root is the one name that is not.
 -- Assumes nothing.
-use mathlib.Core.Path.{◌≡◌, refl, sym, ap, ◌∙◌, subst}
+use mathlib.Core.Path.{◌≡◌, refl, sym, subst}
 use mathlib.Core.Logic.{◌≢◌, ◌⊎◌, inl, inr}
 use mathlib.Core.List.{List, ◌∷◌}
 use Prim.Native.Nat.{ℕ, ◌+◌, ◌<◌, ◌≤◌}
@@ -29,36 +29,36 @@ pub record Stretching (I M : List ℕ) (p e q : ℕ) (M' : List ℕ) : Type 0 wh
 pub stretching_start : (I M : List ℕ) (p e : ℕ) → Stretching I M p e p M
 stretching_start I M p e = record { rest = λ z h. h; old = λ z h. h; new = λ z h. inr h; only = λ z h. inl h }
 
-module _ {n : ℕ} {I M₀ M : List ℕ} {p e q i j : ℕ} (l : Listed n I M₀ e) (more : q < e) (ei : i ≡ q) (ej : j ≡ get_or I i 0) (same : length M ≡ length M₀)
+module _ {n : ℕ} {I M₀ M : List ℕ} {p e q : ℕ} (l : Listed n I M₀ e) (more : q < e) (same : length M ≡ length M₀)
     (s : Stretching I M₀ p e q M) where
-  name_inside : j < length M
-  name_inside = omega (arith, name_low l more ei ej, l.long)
+  name_inside : get_or I q 0 < length M
+  name_inside = omega (arith, name_low l more, l.long)
 
-  next_name : slice q e I ≡ j ∷ slice (q + 1) e I
-  next_name = slice_next q e I more l.inside ∙ ap (λ y. y ∷ slice (q + 1) e I) (ap (λ k. get_or I k 0) (sym ei) ∙ sym ej)
+  next_name : slice q e I ≡ get_or I q 0 ∷ slice (q + 1) e I
+  next_name = slice_next q e I more l.inside
 
   later : (z : ℕ) → In z (slice (q + 1) e I) → In z (slice q e I)
   later z h = subst (λ k. In z k) (sym next_name) (inr h)
 
-  pub stretching_next : Stretching I M₀ p e (q + 1) (set M j 1)
+  pub stretching_next : Stretching I M₀ p e (q + 1) (set M (get_or I q 0) 1)
   stretching_next = record {
     rest = λ z h. s.rest z (later z h);
     old = λ z h. marks_kept z (s.old z h);
     new = λ z h. new_of z (s.new z h);
-    only = at_set M j 1 name_inside (λ z v. 1 ≤ v → (1 ≤ get_or M₀ z 0) ⊎ In z (slice p e I)) (λ h. inr (s.rest j (subst (λ k. In j k) (sym next_name) (inl refl)))) (λ z k. s.only z);
+    only = at_set M (get_or I q 0) 1 name_inside (λ z v. 1 ≤ v → (1 ≤ get_or M₀ z 0) ⊎ In z (slice p e I)) (λ h. inr (s.rest (get_or I q 0) (subst (λ k. In (get_or I q 0) k) (sym next_name) (inl refl)))) (λ z k. s.only z);
   }
     where
-      marks_kept : (z : ℕ) → 1 ≤ get_or M z 0 → 1 ≤ get_or (set M j 1) z 0
-      marks_kept = at_set M j 1 name_inside (λ z v. 1 ≤ get_or M z 0 → 1 ≤ v) (λ h. omega arith) (λ z k h. h)
+      marks_kept : (z : ℕ) → 1 ≤ get_or M z 0 → 1 ≤ get_or (set M (get_or I q 0) 1) z 0
+      marks_kept = at_set M (get_or I q 0) 1 name_inside (λ z v. 1 ≤ get_or M z 0 → 1 ≤ v) (λ h. omega arith) (λ z k h. h)
 
-      own : (z : ℕ) → z ≡ j → 1 ≤ get_or (set M j 1) z 0
-      own = at_set M j 1 name_inside (λ z v. z ≡ j → 1 ≤ v) (λ h. omega arith) (λ z k h. absurd (k h))
+      own : (z : ℕ) → z ≡ get_or I q 0 → 1 ≤ get_or (set M (get_or I q 0) 1) z 0
+      own = at_set M (get_or I q 0) 1 name_inside (λ z v. z ≡ get_or I q 0 → 1 ≤ v) (λ h. omega arith) (λ z k h. absurd (k h))
 
-      split : (z : ℕ) → In z (j ∷ slice (q + 1) e I) → (1 ≤ get_or (set M j 1) z 0) ⊎ In z (slice (q + 1) e I)
+      split : (z : ℕ) → In z (get_or I q 0 ∷ slice (q + 1) e I) → (1 ≤ get_or (set M (get_or I q 0) 1) z 0) ⊎ In z (slice (q + 1) e I)
       split z (inl h) = inl (own z h)
       split z (inr h) = inr h
 
-      new_of : (z : ℕ) → (1 ≤ get_or M z 0) ⊎ In z (slice q e I) → (1 ≤ get_or (set M j 1) z 0) ⊎ In z (slice (q + 1) e I)
+      new_of : (z : ℕ) → (1 ≤ get_or M z 0) ⊎ In z (slice q e I) → (1 ≤ get_or (set M (get_or I q 0) 1) z 0) ⊎ In z (slice (q + 1) e I)
       new_of z (inl h) = inl (marks_kept z h)
       new_of z (inr h) = split z (subst (λ k. In z k) next_name h)
 
@@ -109,22 +109,19 @@ pub record Bearing (n : ℕ) (M : List ℕ) (a x : ℕ) : Type 0 where
 pub bearing_start : {n a : ℕ} (M : List ℕ) → a ≤ n → Bearing n M a a
 bearing_start M l = record { from = omega arith; low = l; marked_before = λ z h k. let b : ⊥ = omega arith in absurd b }
 
-module _ {n : ℕ} {M : List ℕ} {a x i : ℕ} (more : x < n) (ei : i ≡ x) (b : Bearing n M a x) where
-  pub bearing_next : (get_or M i 0 ≡ 0 → ⊥) → Bearing n M a (x + 1)
+module _ {n : ℕ} {M : List ℕ} {a x : ℕ} (more : x < n) (b : Bearing n M a x) where
+  pub bearing_next : (get_or M x 0 ≡ 0 → ⊥) → Bearing n M a (x + 1)
   bearing_next h = record {
     from = omega (arith, b.from);
     low = omega arith;
-    marked_before = λ z l k. below_more (λ y. a ≤ y → 1 ≤ get_or M y 0) x (λ y q r. b.marked_before y r q) (λ r. subst (λ y. 1 ≤ get_or M y 0) ei (positive h)) z k l;
+    marked_before = λ z l k. below_more (λ y. a ≤ y → 1 ≤ get_or M y 0) x (λ y q r. b.marked_before y r q) (λ r. omega arith) z k l;
   }
-    where
-      positive : (get_or M i 0 ≡ 0 → ⊥) → 1 ≤ get_or M i 0
-      positive q = omega arith
 
-  pub bearing_stop : get_or M i 0 ≡ 0 → FirstBare n M a x
-  bearing_stop h = record { from = b.from; low = b.low; marked_before = b.marked_before; bare = λ k. subst (λ y. get_or M y 0 ≡ 0) ei h }
+  pub bearing_stop : get_or M x 0 ≡ 0 → (x < n) × FirstBare n M a x
+  bearing_stop h = (more, record { from = b.from; low = b.low; marked_before = b.marked_before; bare = λ k. h })
 
-pub bearing_end : {n : ℕ} {M : List ℕ} {a x : ℕ} → n ≤ x → Bearing n M a x → FirstBare n M a x
-bearing_end l b = record { from = b.from; low = b.low; marked_before = b.marked_before; bare = λ k. let z : ⊥ = omega arith in absurd z }
+pub bearing_end : {n : ℕ} {M : List ℕ} {a x : ℕ} → n ≤ x → Bearing n M a x → FirstBare n M a n
+bearing_end l b = record { from = omega (arith, b.from, b.low); low = omega arith; marked_before = λ z h k. b.marked_before z h (omega arith); bare = λ k. let z : ⊥ = omega arith in absurd z }
 
 -- ---- the root is the one name that is not marked
 

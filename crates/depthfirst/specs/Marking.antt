@@ -1,7 +1,7 @@
 -- The work lists: M has a mark for each name (0: not met, 1: open, 2 or more: left), K is the stack of open names,
 -- A the place in each one's inputs, Q the names in the order in which they are left.
 -- Assumes nothing.
-use Rattle.std.specs.Prelude.{◌≡◌, ◌⊎◌, List, [], ◌∷◌, ◌++◌, ℕ, zero, suc, ◌<◌, ◌≤◌, get_or, length, take, set}
+use Rattle.std.specs.Prelude.{◌≡◌, ◌⊎◌, Option, Some, None, List, [], ◌∷◌, ◌++◌, ℕ, zero, suc, ◌<◌, ◌≤◌, get_or, length, take, set}
 use Rattle.std.proofs.Math.Seq.{slice}
 use Rattle.paper.specs.Lists.{In, Once}
 use Rattle.paper.specs.Walks.{Ordered}
@@ -55,6 +55,11 @@ pub record Passes (n : ℕ) (I M : List ℕ) (p e q : ℕ) : Type 0 where
   pub left : (y : ℕ) → In y passed → 2 ≤ get_or M y 0
   pub stop : q < e → get_or M (get_or I q 0) 0 < 2
 
+-- what the look for that place answers: the place, where there is one before e
+abbrev pub Passed : (n : ℕ) (I M : List ℕ) (p e : ℕ) → Option ℕ → Type 0
+Passed n I M p e (Some q) = (q < e) × Passes n I M p e q
+Passed n I M p e None = Passes n I M p e e
+
 -- y stands among the first d numbers of K
 pub record Stands (K : List ℕ) (d y : ℕ) : Type 0 where
   pub spot : ℕ
@@ -91,3 +96,8 @@ pub record FirstBare (n : ℕ) (M : List ℕ) (a r : ℕ) : Type 0 where
   pub low : r ≤ n
   pub marked_before : (z : ℕ) → a ≤ z → z < r → 1 ≤ get_or M z 0
   pub bare : r < n → get_or M r 0 ≡ 0
+
+-- what the look for it answers: the name, where there is one below n
+abbrev pub Bares : (n : ℕ) (M : List ℕ) (a : ℕ) → Option ℕ → Type 0
+Bares n M a (Some r) = (r < n) × FirstBare n M a r
+Bares n M a None = FirstBare n M a n

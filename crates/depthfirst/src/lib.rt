@@ -5,21 +5,14 @@
 ghost use Rattle.std.specs.Prelude.{◌≡◌, ◌<◌, ◌≤◌, length, take, get_or};
 ghost use Rattle.paper.specs.Walks.{visit};
 ghost use Rattle.depthfirst.specs.Inputs.{inputs_of, Arrays};
-ghost use Rattle.depthfirst.specs.Marking.{Rooms, Idle, Clear, Listed, Passes, Stands, Opened, Closed, Stretched, InputsMarked, FirstBare};
+ghost use Rattle.depthfirst.specs.Marking.{Rooms, Idle, Clear, Listed, Passed, Stands, Opened, Closed, Stretched, InputsMarked, Bares};
 ghost use Rattle.depthfirst.specs.Answers.{WalksOn, Walks, WalksAll, Numberable, Numbers, RootIs};
 
-// Done: how many names were left. Back: the places of the stack, from the first up to the second, are a ring.
-#[derive(Clone, Copy)]
-pub enum Walked {
-    Done(usize),
-    Back(usize, usize),
-}
-
-// One: the one name that is an input of none. Not: no such name, or more than one.
-#[derive(Clone, Copy)]
-pub enum Root {
-    One(u32),
-    Not,
+// A walk came back to an open name: the places of the stack from `from` up to `to` are a ring.
+#[derive(Clone, Copy, PartialEq, Eq, Debug)]
+pub struct RingError {
+    pub from: usize,
+    pub to: usize,
 }
 
 // How many of some names are events, and how many gates.
@@ -29,40 +22,26 @@ pub struct Counts {
     pub gates: u32,
 }
 
-fn wide(x: u32) -> usize
-    ensures { result ≡ x }
-{
-    x as usize
-}
-
 // No name is met.
 fn clear(mark: &mut [u32], count: u32)
     requires { count ≤ length mark.old }
     ensures { Clear count mark.new }
 {
-    let n = wide(count);
-    let mut i = 0;
-    while i < n {
-        mark[i] = 0;
-        i += 1;
-    }
+    mark[..count as usize].fill(0);
 }
 
-// The first place from `p` on, before `end`, whose name is not left yet; `end` or more where there is none.
-fn pass(inputs: &[u32], mark: &[u32], count: u32, p: u32, end: u32) -> u32
+// The first place from `p` on, before `end`, whose name is not left yet.
+fn pass(inputs: &[u32], mark: &[u32], count: u32, p: u32, end: u32) -> Option<u32>
     requires { Listed count inputs.now mark.now end }
-    ensures { Passes count inputs.now mark.now p end result }
+    ensures { Passed count inputs.now mark.now p end result }
 {
-    let mut q = p;
-    while q < end {
-        let i = wide(q);
-        let y = wide(inputs[i]);
-        if mark[y] < 2 {
-            return q;
+    for q in p..end {
+        let y = inputs[q as usize];
+        if mark[y as usize] < 2 {
+            return Some(q);
         }
-        q += 1;
     }
-    q
+    None
 }
 
 // The place of an open name on the stack.
@@ -71,11 +50,7 @@ fn place(stack: &[u32], depth: usize, y: u32) -> usize
     requires depth_in_bounds { depth ≤ length stack.now }
     ensures { (result < depth) × (get_or stack.now result 0 ≡ y) }
 {
-    let mut i = depth - 1;
-    while stack[i] != y {
-        i -= 1;
-    }
-    i
+    stack[..depth].iter().rposition(|x| *x == y).unwrap()
 }
 
 // Opens the name `y`.
@@ -83,10 +58,9 @@ fn enter(starts: &[u32], y: u32, mark: &mut [u32], stack: &mut [u32], at: &mut [
     requires { (y < length starts.now) × (y < length mark.old) × (depth < length stack.old) × (depth < length at.old) }
     ensures { Opened starts.now mark.old stack.old at.old depth y mark.new stack.new at.new }
 {
-    let i = wide(y);
-    mark[i] = 1;
+    mark[y as usize] = 1;
     stack[depth] = y;
-    at[depth] = starts[i];
+    at[depth] = starts[y as usize];
 }
 
 // Leaves the name `x`.
@@ -94,8 +68,7 @@ fn leave(x: u32, mark: &mut [u32], order: &mut [u32], left: usize)
     requires { (x < length mark.old) × (left < length order.old) }
     ensures { Closed mark.old order.old left x mark.new order.new }
 {
-    let i = wide(x);
-    mark[i] = 2;
+    mark[x as usize] = 2;
     order[left] = x;
 }
 
@@ -110,45 +83,45 @@ fn walk_on(
     at: &mut [u32],
     order: &mut [u32],
     left: usize,
-) -> Walked
+) -> Result<usize, RingError>
     requires arrays { Arrays starts.now inputs.now count }
     requires rooms { Rooms count mark.old stack.old at.old order.old }
     requires idle { Idle starts.now inputs.now count mark.old order.old left }
     requires root_lt_count { root < count }
     ensures { WalksOn starts.now inputs.now count mark.new stack.new order.new (λ k. visit (inputs_of starts.now inputs.now) k (take left order.old) root) result }
 {
-    let first = wide(root);
-    if 2 <= mark[first] {
-        return Walked::Done(left);
+    if 2 <= mark[root as usize] {
+        return Ok(left);
     }
     enter(starts, root, mark, stack, at, 0);
     let mut depth: usize = 1;
     let mut n = left;
+    // By hand: the walk goes up and down its stack, and counts no index.
     while 0 < depth {
         let top = depth - 1;
         let x = stack[top];
         let p = at[top];
-        let next = wide(x) + 1;
+        let next = x as usize + 1;
         let end = starts[next];
-        let q = pass(inputs, mark, count, p, end);
-        if q < end {
-            let i = wide(q);
-            let y = inputs[i];
-            let j = wide(y);
-            if mark[j] == 1 {
-                let from = place(stack, depth, y);
-                return Walked::Back(from, depth);
+        match pass(inputs, mark, count, p, end) {
+            Some(q) => {
+                let y = inputs[q as usize];
+                if mark[y as usize] == 1 {
+                    let from = place(stack, depth, y);
+                    return Err(RingError { from, to: depth });
+                }
+                at[top] = q;
+                enter(starts, y, mark, stack, at, depth);
+                depth += 1;
             }
-            at[top] = q;
-            enter(starts, y, mark, stack, at, depth);
-            depth += 1;
-        } else {
-            leave(x, mark, order, n);
-            n += 1;
-            depth = top;
+            None => {
+                leave(x, mark, order, n);
+                n += 1;
+                depth = top;
+            }
         }
     }
-    Walked::Done(n)
+    Ok(n)
 }
 
 // The walk from `root`: the names that it leads to, in the order in which the walk leaves them, or a ring.
@@ -161,7 +134,7 @@ pub fn walk(
     stack: &mut [u32],
     at: &mut [u32],
     order: &mut [u32],
-) -> Walked
+) -> Result<usize, RingError>
     requires arrays { Arrays starts.now inputs.now count }
     requires rooms { Rooms count mark.old stack.old at.old order.old }
     requires root_lt_count { root < count }
@@ -180,27 +153,17 @@ pub fn walk_all(
     stack: &mut [u32],
     at: &mut [u32],
     order: &mut [u32],
-) -> Walked
+) -> Result<usize, RingError>
     requires arrays { Arrays starts.now inputs.now count }
     requires rooms { Rooms count mark.old stack.old at.old order.old }
     ensures { WalksAll starts.now inputs.now count stack.new order.new result }
 {
     clear(mark, count);
     let mut left: usize = 0;
-    let mut i: u32 = 0;
-    while i < count {
-        let w = walk_on(starts, inputs, count, i, mark, stack, at, order, left);
-        match w {
-            Walked::Done(r) => {
-                left = r;
-            }
-            Walked::Back(a, e) => {
-                return Walked::Back(a, e);
-            }
-        }
-        i += 1;
+    for i in 0..count {
+        left = walk_on(starts, inputs, count, i, mark, stack, at, order, left)?;
     }
-    Walked::Done(left)
+    Ok(left)
 }
 
 // Numbers the first `left` names of an order: the events from 0 on, and the gates from 0 on.
@@ -217,11 +180,9 @@ pub fn number(
 {
     let mut events: u32 = 0;
     let mut gates: u32 = 0;
-    let mut i = 0;
-    while i < left {
-        let x = wide(order[i]);
+    for i in 0..left {
+        let x = order[i] as usize;
         let next = x + 1;
-        i += 1;
         if starts[x] < starts[next] {
             numbers[x] = gates;
             gates += 1;
@@ -230,10 +191,7 @@ pub fn number(
             events += 1;
         }
     }
-    Counts {
-        events: events,
-        gates: gates,
-    }
+    Counts { events, gates }
 }
 
 // Marks the names at the places `p` to `end`.
@@ -241,12 +199,9 @@ fn mark_stretch(inputs: &[u32], count: u32, p: u32, end: u32, mark: &mut [u32])
     requires { Listed count inputs.now mark.old end }
     ensures { Stretched inputs.now mark.old p end mark.new }
 {
-    let mut q = p;
-    while q < end {
-        let i = wide(q);
-        let y = wide(inputs[i]);
-        mark[y] = 1;
-        q += 1;
+    for q in p..end {
+        let y = inputs[q as usize];
+        mark[y as usize] = 1;
     }
 }
 
@@ -257,47 +212,38 @@ fn mark_inputs(starts: &[u32], inputs: &[u32], count: u32, mark: &mut [u32])
     requires clear { Clear count mark.old }
     ensures { InputsMarked (inputs_of starts.now inputs.now) count count mark.new }
 {
-    let n = wide(count);
-    let mut x = 0;
-    while x < n {
+    for x in 0..count as usize {
         let p = starts[x];
-        x += 1;
-        mark_stretch(inputs, count, p, starts[x], mark);
+        let end = starts[x + 1];
+        mark_stretch(inputs, count, p, end, mark);
     }
 }
 
-// The first name from `a` on that is not marked, `count` where there is none.
-fn first_bare(mark: &[u32], count: u32, a: u32) -> u32
+// The first name from `a` on that is not marked.
+fn first_bare(mark: &[u32], count: u32, a: u32) -> Option<u32>
     requires count_in_bounds { count ≤ length mark.now }
     requires a_le_count { a ≤ count }
-    ensures { FirstBare count mark.now a result }
+    ensures { Bares count mark.now a result }
 {
-    let mut x = a;
-    while x < count {
-        let i = wide(x);
-        if mark[i] == 0 {
-            return x;
+    for x in a..count {
+        if mark[x as usize] == 0 {
+            return Some(x);
         }
-        x += 1;
     }
-    x
+    None
 }
 
 // The root: the one name that is an input of none.
-pub fn one_root(starts: &[u32], inputs: &[u32], count: u32, mark: &mut [u32]) -> Root
+pub fn one_root(starts: &[u32], inputs: &[u32], count: u32, mark: &mut [u32]) -> Option<u32>
     requires arrays { Arrays starts.now inputs.now count }
     requires count_in_bounds { count ≤ length mark.old }
     ensures { RootIs starts.now inputs.now count result }
 {
     clear(mark, count);
     mark_inputs(starts, inputs, count, mark);
-    let root = first_bare(mark, count, 0);
-    if count <= root {
-        return Root::Not;
+    let root = first_bare(mark, count, 0)?;
+    match first_bare(mark, count, root + 1) {
+        Some(_) => None,
+        None => Some(root),
     }
-    let next = first_bare(mark, count, root + 1);
-    if next < count {
-        return Root::Not;
-    }
-    Root::One(root)
 }

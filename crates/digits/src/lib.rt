@@ -26,12 +26,10 @@ pub fn scale(ds: &mut [u64], used: usize, x: u64)
     ensures { (number ds.new ≡ number ds.old * x) × Number ds.new (used + 1) }
 {
     let mut carry = 0;
-    let mut k = 0;
-    while k < used {
+    for k in 0..used {
         let v = ds[k] * x + carry;
         ds[k] = v % BASE;
         carry = v / BASE;
-        k += 1;
     }
     ds[used] = carry;
 }
@@ -41,10 +39,8 @@ pub fn lift(ds: &mut [u64], used: usize, times: usize)
     requires { Number ds.old used × (used + times < length ds.old) }
     ensures { (number ds.new ≡ number ds.old * billion ^ times) × Number ds.new (used + times) }
 {
-    let mut k = 0;
-    while k < times {
+    for k in 0..times {
         scale(ds, used + k, BASE);
-        k += 1;
     }
 }
 
@@ -53,9 +49,7 @@ pub fn at_most(xs: &[u64], ys: &[u64], used: usize) -> bool
     requires { Number xs.now used × Number ys.now used × (used ≤ length xs.now) × (used ≤ length ys.now) }
     ensures { (result ≡ true → number xs.now ≤ number ys.now) × (result ≡ false → number ys.now < number xs.now) }
 {
-    let mut k = used;
-    while 0 < k {
-        k -= 1;
+    for k in (0..used).rev() {
         if xs[k] < ys[k] {
             return true;
         }

@@ -7,20 +7,23 @@ use native.Mathlib.Omega.{arith}
 use lib.Dec.{ltb}
 use lib.ListN.{length, take, drop}
 use lib.Seq.{take_at}
+use Rattle.std.specs.Prelude.{Result, Ok, Err}
 use Rattle.paper.specs.Limits.{limits}
 use Rattle.paper.specs.Texts.{lines_of}
 use Rattle.paper.specs.Meaning.{tree_said}
 use Rattle.paper.specs.Exporting.{text_of}
-use Rattle.rules.specs.declared.Answer.TheVariants.{Done, Room}
+use Rattle.rules.specs.declared.Refusal.{Refusal}
+use Rattle.rules.specs.declared.Refusal.TheVariants.{Room}
 use Rattle.rules.proofs.Cases.{either}
 use Rattle.records.specs.Judge.{Book, Outcome, accept, refuse, outcome}
-use Rattle.records.specs.Memory.{in_memory}
+use Rattle.records.specs.Memory.{memory}
 use Rattle.records.specs.Trees.{Lawful, tree_of, tree_in}
 use Rattle.records.specs.Flattened.{book_of, LawfulTree}
 use Rattle.records.specs.declared.Tree.{Tree}
 use Rattle.judging.specs.Bytes.{bytes_of}
 use Rattle.writing.specs.Writes.{Wrote, wrote, laid_of}
-use Rattle.trees.proofs.Promises.{Good, done_is_good}
+use Rattle.trees.proofs.Lawful.{lawful}
+use Rattle.trees.proofs.Promises.{Good}
 use Rattle.meaning.specs.Exported.{root_in, tree_again, SaysAgain}
 use Rattle.meaning.proofs.Once.{one_root, says_once}
 use Rattle.meaning.proofs.Export.{export_says_again}
@@ -29,7 +32,7 @@ use Rattle.exporting.proofs.Exports.{Exports}
 use Rattle.equations.specs.Lists.{Lists, Long}
 use Rattle.equations.specs.Contract.{Imports, short, refused, back, done}
 use Rattle.equations.specs.Promises.{Means}
-use Rattle.equations.specs.declared.Imported.{Imported}
+use Rattle.equations.specs.Imported.{Imported}
 use Rattle.equations.proofs.Once.{imports_means}
 use Rattle.equations.proofs.AsTree.{lawful_tree}
 use Rattle.equations.proofs.Told.{Sized, accepted_tree, sized_memory, tree_in_memory}
@@ -40,38 +43,42 @@ accepted_says_again b v = export_says_again (tree_of b) (lawful_tree b v)
 
 -- ---- a done export
 
-laid_answer : (o : Outcome) (s room : List ℕ) → (laid_of o s room).answer ≡ Done → (in_memory o).answer ≡ Done
-unfolding in_memory
-laid_answer (accept b) s room d = refl
-laid_answer (refuse a) s room d = d
+laid_accepts : (o : Outcome) (s room : List ℕ) {n : ℕ} → (laid_of o s room).answer ≡ Ok n → (b : Book) × (o ≡ accept b)
+laid_accepts (accept b) s room d = (b, refl)
+laid_accepts (refuse a) s room {n} d = let x : ◌≡◌ {A = Result ℕ Refusal} (Err a) (Ok n) = d in let z : ◌≡◌ {A = ℕ} 0 1 = cc in absurd (omega arith)
 
-laid_is : (b : Book) (s room : List ℕ) → (laid_of (accept b) s room).answer ≡ Done → laid_of (accept b) s room ≡ wrote Done (length s) (s ++ drop (length s) room)
-laid_is b s room d =
+laid_is : (b : Book) (s room : List ℕ) {n : ℕ} → (laid_of (accept b) s room).answer ≡ Ok n → laid_of (accept b) s room ≡ wrote (Ok (length s)) (s ++ drop (length s) room)
+laid_is b s room {n} d =
     either (ltb (length room) (length s))
-    (λ q. let x : Room ≡ Done = rw q at d in let z : ◌≡◌ {A = ℕ} 0 1 = cc in absurd (omega arith))
+    (λ q. let x : ◌≡◌ {A = Result ℕ Refusal} (Err Room) (Ok n) = rw q at d in let z : ◌≡◌ {A = ℕ} 0 1 = cc in absurd (omega arith))
     (λ q. rw q refl)
 
-module _ (t : Tree) (room : List ℕ) {w : Wrote} (p : Exports t room w) (d : w.answer ≡ Done) where
+module _ (t : Tree) (room : List ℕ) {w : Wrote} (p : Exports t room w) {n : ℕ} (d : w.answer ≡ Ok n) where
   laid : w ≡ laid_of (outcome limits (bytes_of t)) (text_of (tree_in t)) room
   unfolding export_of
   laid = p
 
-  good : Good (bytes_of t) (in_memory (outcome limits (bytes_of t))).tree
-  good = done_is_good (bytes_of t) refl (laid_answer (outcome limits (bytes_of t)) (text_of (tree_in t)) room (sym (ap (λ (x : Wrote). x.answer) laid) ∙ d))
+  read : (b : Book) × (outcome limits (bytes_of t) ≡ accept b)
+  read = laid_accepts (outcome limits (bytes_of t)) (text_of (tree_in t)) room (sym (ap (λ (x : Wrote). x.answer) laid) ∙ d)
+
+  good : Good (bytes_of t) (memory read.0)
+  good = record { book = read.0; accepted = read.1; tree = refl; lawful = lawful (bytes_of t) read.0 read.1 }
 
   -- THE TEXT is the tree's
-  pub text_is : take w.bytes w.room ≡ text_of (tree_in t)
+  pub text_is : take n w.room ≡ text_of (tree_in t)
   text_is =
       let s = text_of (tree_in t) in
       let q : w ≡ laid_of (accept good.book) s room = laid ∙ ap (λ (o : Outcome). laid_of o s room) good.accepted in
-      let is : w ≡ wrote Done (length s) (s ++ drop (length s) room) = q ∙ laid_is good.book s room (sym (ap (λ (x : Wrote). x.answer) q) ∙ d) in
-      ap (λ (x : Wrote). take x.bytes x.room) is ∙ take_at s (drop (length s) room) (length s) refl
+      let is : w ≡ wrote (Ok (length s)) (s ++ drop (length s) room) = q ∙ laid_is good.book s room (sym (ap (λ (x : Wrote). x.answer) q) ∙ d) in
+      let y : ◌≡◌ {A = Result ℕ Refusal} (Ok n) (Ok (length s)) = sym d ∙ ap (λ (x : Wrote). x.answer) is in
+      let k : n ≡ length s = cc in
+      ap (λ (x : Wrote). take n x.room) is ∙ ap (λ (m : ℕ). take m (s ++ drop (length s) room)) k ∙ take_at s (drop (length s) room) (length s) refl
 
   module _ (z : Sized t) where
     lawful_in : LawfulTree limits (tree_in t)
     lawful_in = subst (LawfulTree limits) (sym (accepted_tree t good.book good.accepted z)) (lawful_tree good.book good.lawful)
 
-    pub text_says_again : SaysAgain (tree_in t) (lines_of (take w.bytes w.room))
+    pub text_says_again : SaysAgain (tree_in t) (lines_of (take n w.room))
     text_says_again = subst (λ (x : List ℕ). SaysAgain (tree_in t) (lines_of x)) (sym text_is) (export_says_again (tree_in t) lawful_in)
 
 -- ---- its import
@@ -99,11 +106,11 @@ module _ (t : Tree) (text : List ℕ) (s : SaysAgain (tree_in t) (lines_of text)
       ap tree_in m.is ∙ tree_in_memory (book_of (tree_said (lines_of text) m.root)) m.lawful ∙ m.same ∙ ap (tree_said (lines_of text)) root
 
 -- EXPORTED, THEN IMPORTED: for any tree in memory and any room in which its export is done, and any lists that are long enough for its text
-pub export_then_import : (t : Tree) → Sized t → (room : List ℕ) {w : Wrote} → Exports t room w → w.answer ≡ Done
-    → (l l' : Lists) (a : Imported) → Imports (take w.bytes w.room) l l' a → Long (length (take w.bytes w.room)) l
-    → BackAgain t (take w.bytes w.room) a
-export_then_import t z room {w} p d l l' a i g =
-    let text = take w.bytes w.room in
+pub export_then_import : (t : Tree) → Sized t → (room : List ℕ) {w : Wrote} → Exports t room w → {n : ℕ} → w.answer ≡ Ok n
+    → (l l' : Lists) (a : Imported) → Imports (take n w.room) l l' a → Long (length (take n w.room)) l
+    → BackAgain t (take n w.room) a
+export_then_import t z room {w} p {n} d l l' a i g =
+    let text = take n w.room in
     let s = text_says_again t room p d z in
     let n = import_done t text s l l' a g i in
     record { typed = text_is t room p d; number = n; tree = import_tree t text s l l' a i n; says = s }

@@ -11,7 +11,7 @@ use lib.ListN.{length}
 use borrow.Author.Tests.{ltb-true, ltb-false, lt-ltb, le-ltb, eqb-true, eqb-false, eq-eqb, ne_eqb}
 use Rattle.paper.specs.Limits.{limits, billion}
 use Rattle.paper.specs.Lists.{In}
-use Rattle.paper.specs.Trees.{Input, Gate, and_g, or_g, least_g, same_input, distinct_inputs, Tree}
+use Rattle.paper.specs.Trees.{Gate, and_g, or_g, least_g, same_input, distinct_inputs, Tree}
 use Rattle.paper.specs.Importing.{or_else, inputs_to, events_break, least_breaks, too_many, gate_breaks, gates_break, broken}
 use Rattle.twins.proofs.Firsts.{firsts_length}
 use Rattle.rules.proofs.Cases.{either}

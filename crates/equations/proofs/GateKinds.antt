@@ -1,6 +1,7 @@
 -- The kind and the k of a gate by the line that defines it, name by name.
 -- Assumes nothing.
 use mathlib.Core.Path.{◌≡◌, sym, subst}
+use Rattle.std.specs.Prelude.{Option, Some, None}
 use mathlib.Core.List.{List, [], ◌∷◌}
 use Prim.Native.Nat.{ℕ, ◌+◌, ◌<◌, ◌≤◌}
 use native.Mathlib.Decide.{dec_lt}
@@ -14,16 +15,16 @@ use Rattle.paper.specs.Equations.{name_in, line_in}
 use Rattle.paper.specs.Meaning.{gate_by}
 use Rattle.lines.specs.Reading.{Reads}
 use Rattle.lines.specs.declared.Kind.{Kind}
-use Rattle.lines.specs.declared.Kind.TheVariants.{Bad, Chance, Or, And, AtLeast}
+use Rattle.lines.specs.declared.Kind.TheVariants.{Chance, Or, And, AtLeast}
 use Rattle.scanning.specs.Judged.{ReadsOf}
 use Rattle.equations.specs.Kinds.{kind_number, least_number, CappedGate, same, least, KindOf, KindsOf}
 
-kind_read : (s : List ℕ) (L : Line) (x : List ℕ) (at : ℕ) (k : Kind) → Reads s L x at k → KindOf L (kind_number k) (least_number k)
-kind_read s L x at Bad r = record { known = (omega arith, omega arith); gate = λ is. subst (λ l. CappedGate (gate_by l is) (or_g is)) (sym r) (same (or_g is)) }
-kind_read s L x at (Chance v) r = record { known = (omega arith, omega arith); gate = λ is. subst (λ l. CappedGate (gate_by l is) (or_g is)) (sym r.is) (same (or_g is)) }
-kind_read s L x at (Or i) r = record { known = (omega arith, omega arith); gate = λ is. subst (λ l. CappedGate (gate_by l is) (or_g is)) (sym r.is) (same (or_g is)) }
-kind_read s L x at (And i) r = record { known = (omega arith, omega arith); gate = λ is. subst (λ l. CappedGate (gate_by l is) (and_g is)) (sym r.is) (same (and_g is)) }
-kind_read s L x at (AtLeast k i) r = record {
+kind_read : (s : List ℕ) (L : Line) (x : List ℕ) (at : ℕ) (k : Option Kind) → Reads s L x at k → KindOf L (kind_number k) (least_number k)
+kind_read s L x at None r = record { known = (omega arith, omega arith); gate = λ is. subst (λ l. CappedGate (gate_by l is) (or_g is)) (sym r) (same (or_g is)) }
+kind_read s L x at (Some (Chance v)) r = record { known = (omega arith, omega arith); gate = λ is. subst (λ l. CappedGate (gate_by l is) (or_g is)) (sym r.is) (same (or_g is)) }
+kind_read s L x at (Some (Or i)) r = record { known = (omega arith, omega arith); gate = λ is. subst (λ l. CappedGate (gate_by l is) (or_g is)) (sym r.is) (same (or_g is)) }
+kind_read s L x at (Some (And i)) r = record { known = (omega arith, omega arith); gate = λ is. subst (λ l. CappedGate (gate_by l is) (and_g is)) (sym r.is) (same (and_g is)) }
+kind_read s L x at (Some (AtLeast k i)) r = record {
   known = (omega arith, omega arith);
   gate = λ is. subst (λ l. CappedGate (gate_by l is) (least_g k is)) (sym r.joined.is) (least r.number k is r.capped);
 }
@@ -35,7 +36,7 @@ line_for text m = line_in (name_in (lines_of text) m) (lines_of text)
 pub kinds_none : (text K L : List ℕ) → KindsOf text 0 K L
 kinds_none text K L = record { each = λ n h. absurd (omega arith) }
 
-pub kinds_next : (F : List ℕ) {text K L : List ℕ} {n stop k l : ℕ} {kind : Kind} → KindsOf text n K L → n < length K → n < length L → ReadsOf text F n kind stop
+pub kinds_next : (F : List ℕ) {text K L : List ℕ} {n stop k l : ℕ} {kind : Option Kind} → KindsOf text n K L → n < length K → n < length L → ReadsOf text F n kind stop
     → k ≡ kind_number kind → l ≡ least_number kind → KindsOf text (n + 1) (set K n k) (set L n l)
 kinds_next F {text} {K} {L} {n} {stop} {k} {l} {kind} a hk hl r ek el = record { each = λ m h. go m h (dec_lt m n) }
   where

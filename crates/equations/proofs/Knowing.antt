@@ -1,22 +1,22 @@
 -- What is known of the names after the scan, and that it stays so while the work lists change.
 -- Assumes nothing.
-use mathlib.Core.Path.{◌≡◌, refl, sym, ap, ◌∙◌, subst}
+use mathlib.Core.Path.{◌≡◌, refl, sym, subst}
 use mathlib.Core.List.{List}
-use Prim.Native.Nat.{ℕ, suc, ◌+◌, ◌<◌, ◌≤◌}
+use Prim.Native.Nat.{ℕ, ◌<◌, ◌≤◌}
 use native.Mathlib.Omega.{arith}
-use lib.ListN.{get_or, length, take, replicate, length-replicate}
+use lib.ListN.{length, take}
 use lib.Seq.{length-take-le, get_or-take}
 use Rattle.paper.specs.Texts.{lines_of}
 use Rattle.paper.specs.Equations.{inputs_in}
 use Rattle.scanning.specs.Scanning as scanning
-use Rattle.scanning.specs.Judged.{Places, Names}
+use Rattle.scanning.specs.Judged.{Names}
 use Rattle.scanning.specs.Filling.{Flat}
 use Rattle.scanning.proofs.Known.{count_in}
 use Rattle.scanning.proofs.Filling.{flat_inputs, flat_inside, flat_named}
 use Rattle.depthfirst.specs.Inputs.{inputs_of, Arrays}
 use Rattle.depthfirst.specs.Answers.{AllInOrder}
-use Rattle.equations.specs.Lists.{lists, Long}
-use Rattle.equations.specs.Knowing.{Blank, Ready, Cut, Known, Room}
+use Rattle.equations.specs.Lists.{lists}
+use Rattle.equations.specs.Knowing.{Ready, Cut, Known, Room}
 
 -- ---- the lists while they change
 

@@ -1,9 +1,9 @@
 -- THEOREMS ON THE CONTRACT ALONE: two outcomes coincide but for the ring; done exactly when no rule is broken; the tree means what the text means.
 -- Assumes nothing.
-use mathlib.Core.Path.{◌≡◌, refl, sym, ap, ◌∙◌, subst}
+use mathlib.Core.Path.{◌≡◌, sym, ap, ◌∙◌}
 use mathlib.Core.Logic.{◌↔◌}
 use mathlib.Core.List.{List}
-use Prim.Native.Nat.{ℕ, ◌<◌, ◌≤◌}
+use Prim.Native.Nat.{ℕ, ◌≤◌}
 use native.Mathlib.Omega.{arith}
 use lib.ListN.{length, replicate}
 use Rattle.paper.specs.Limits.{limits}
@@ -12,18 +12,18 @@ use Rattle.paper.specs.Flat.{gates_from}
 use Rattle.paper.specs.Texts.{lines_of}
 use Rattle.paper.specs.Equations.{dict_in}
 use Rattle.paper.specs.Meaning.{tree_said}
-use Rattle.paper.specs.Importing.{Rooted, broken, Says, a_ring, all_right}
+use Rattle.paper.specs.Importing.{Rooted, broken, all_right}
 use Rattle.records.specs.Memory.{pad, memory}
 use Rattle.records.specs.Flattened.{book_of, LawfulTree}
 use Rattle.records.proofs.Breaks.{broken_events, broken_gates, events_few, gates_few}
 use Rattle.records.proofs.Flattened.{tree_again, tree_lawful}
 use Rattle.meaning.proofs.Once.{one_root, says_once}
 use Rattle.meaning.proofs.Chances.{chance_said}
-use Rattle.meaning.proofs.OfTexts.{text_means, text_lawful, text_done}
+use Rattle.meaning.proofs.OfTexts.{text_means, text_lawful}
 use Rattle.equations.specs.Lists.{Lists, Long, Zeroed, Worked}
 use Rattle.equations.specs.Contract.{ShowsRing, spots_of, Imports, short, refused, back, done}
 use Rattle.equations.specs.Promises.{SameRoom, SameLists, Alike, Means}
-use Rattle.equations.specs.declared.Imported.{Imported}
+use Rattle.equations.specs.Imported.{Imported}
 
 -- ---- the statements
 

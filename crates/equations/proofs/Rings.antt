@@ -2,7 +2,7 @@
 -- Assumes nothing.
 use mathlib.Core.Path.{◌≡◌, refl, sym, ap, ◌∙◌, subst}
 use mathlib.Core.Logic.{inl, inr}
-use mathlib.Core.Bool.{Bool, true, false, not, true≢false}
+use mathlib.Core.Bool.{false, not, true≢false}
 use mathlib.Core.List.{List, [], ◌∷◌, ◌++◌, map}
 use Prim.Native.Nat.{ℕ, zero, suc, ◌+◌, ◌-◌, ◌<◌, ◌≤◌}
 use native.Mathlib.Numerals.{add-one}
@@ -19,7 +19,6 @@ use Rattle.records.specs.Memory.{pad}
 use Rattle.records.proofs.Lists.{map_length, map_append}
 use Rattle.records.proofs.Pad.{pad_fill}
 use Rattle.scanning.proofs.Sites.{event_site}
-use Rattle.depthfirst.specs.Inputs.{inputs_of}
 use Rattle.depthfirst.specs.Answers.{Shown}
 use Rattle.depthfirst.proofs.Lists.{slice_none, place_in_lem}
 use Rattle.depthfirst.proofs.Answers.{shown_below, ring_said, back_said}

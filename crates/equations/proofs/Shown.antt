@@ -1,13 +1,12 @@
 -- The names' first appearances shown, events then gates, name by name of the order.
 -- Assumes nothing.
 use mathlib.Core.Path.{◌≡◌, refl, sym, ap, ◌∙◌, subst}
-use mathlib.Core.Bool.{Bool, true, false, not, cond, false≢true, true≢false}
-use mathlib.Core.List.{List, [], ◌∷◌, ◌++◌, map, append_assoc, append-nil}
+use mathlib.Core.Bool.{Bool, true, false, not, beq, cond, false≢true, true≢false}
+use mathlib.Core.List.{List, [], ◌∷◌, ◌++◌, map, append_assoc}
 use Prim.Native.Nat.{ℕ, ◌+◌, ◌<◌, ◌≤◌}
 use native.Mathlib.Omega.{arith}
 use lib.ListN.{get_or, length, take, drop, set, length-set, length-append}
-use lib.Seq.{get_or-take, length-take-le}
-use Rattle.paper.specs.Lists.{In}
+use lib.Seq.{length-take-le}
 use Rattle.paper.specs.Walks.{is_event, events_of, gates_of}
 use Rattle.records.specs.Judge.{◌▷◌}
 use Rattle.records.specs.Memory.{pad}
@@ -16,7 +15,6 @@ use Rattle.records.proofs.Pad.{pad_fill}
 use Rattle.lines.proofs.Parts.{append_none}
 use Rattle.depthfirst.specs.Inputs.{inputs_of}
 use Rattle.planting.proofs.Orders.{one_more, the_rest, name_in, events_append, gates_append}
-use Rattle.equations.specs.Knowing.{Blank}
 use Rattle.equations.specs.Showing.{agree, among, spots_at, Showable, Adds, ShowsNames}
 use Rattle.equations.proofs.Rings.{blank_pad}
 
@@ -60,6 +58,19 @@ module _ (g : ℕ → List ℕ) where
       go true h = omega arith
       go false h = omega arith
 
+-- what the code compares
+agree_same : (t b : Bool) → not (beq t b) ≡ false → agree t b ≡ true
+agree_same true true e = refl
+agree_same true false e = absurd (true≢false e)
+agree_same false true e = absurd (true≢false e)
+agree_same false false e = refl
+
+agree_other : (t b : Bool) → not (beq t b) ≡ true → agree t b ≡ false
+agree_other true true e = absurd (false≢true e)
+agree_other true false e = refl
+agree_other false true e = refl
+agree_other false false e = absurd (false≢true e)
+
 -- ---- the loop
 
 -- of the order's first i names those that are wanted are shown
@@ -101,18 +112,18 @@ module _ {S I : List ℕ} {c : ℕ} {Q : List ℕ} {left : ℕ} {N : List ℕ} {
   more : among events g (take (i + 1) Q) ≡ among events g (take i Q) ++ among events g (x ∷ [])
   more = ap (among events g) next_is ∙ among_append g events (take i Q) (x ∷ [])
 
-  pub names_other : {t : Bool} → t ≡ is_event (g x) → agree t events ≡ false → NamesSoFar S I Q N events W from (i + 1) W' u
+  pub names_other : {t : Bool} → t ≡ is_event (g x) → not (beq t events) ≡ true → NamesSoFar S I Q N events W from (i + 1) W' u
   names_other {t} r w =
       let e : among events g (take (i + 1) Q) ≡ among events g (take i Q)
-      = more ∙ ap (λ m. among events g (take i Q) ++ m) (among_other g events x (ap (λ b. agree b events) (sym r) ∙ w)) ∙ append_none (among events g (take i Q)) in record {
+      = more ∙ ap (λ m. among events g (take i Q) ++ m) (among_other g events x (ap (λ b. agree b events) (sym r) ∙ agree_other t events w)) ∙ append_none (among events g (take i Q)) in record {
         long = s.long;
         count = omega (arith, s.count, ap length e);
         adds = subst (λ m. Adds (spots_at N m) W from W' u) (sym e) s.adds;
       }
 
-  module _ {t : Bool} (r : t ≡ is_event (g x)) (w : agree t events ≡ true) where
+  module _ {t : Bool} (r : t ≡ is_event (g x)) (w : not (beq t events) ≡ false) where
     wanted : among events g (take (i + 1) Q) ≡ among events g (take i Q) ++ (x ∷ [])
-    wanted = more ∙ ap (λ m. among events g (take i Q) ++ m) (among_wanted g events x (ap (λ b. agree b events) (sym r) ∙ w))
+    wanted = more ∙ ap (λ m. among events g (take i Q) ++ m) (among_wanted g events x (ap (λ b. agree b events) (sym r) ∙ agree_same t events w))
 
     pub names_room : u < length W'
     names_room =

@@ -1,34 +1,32 @@
 -- THE TREE THAT IS PLANTED is the tree that the text says: it breaks the same limit, and where it breaks none they are one tree.
 -- Assumes nothing.
-use mathlib.Core.Path.{◌≡◌, refl, sym, ap, ◌∙◌, subst}
-use mathlib.Core.Bool.{Bool, true, false, cond}
-use mathlib.Core.List.{List, [], ◌∷◌, ◌++◌, map}
-use Prim.Native.Nat.{ℕ, zero, suc, ◌-◌, ◌<◌, ◌≤◌}
-use native.Mathlib.Omega.{arith}
-use lib.ListN.{get_or, length, take}
-use lib.Seq.{get_or-take}
+use mathlib.Core.Path.{◌≡◌, sym, ap, ◌∙◌, subst}
+use mathlib.Core.Bool.{cond}
+use mathlib.Core.List.{List, map}
+use Prim.Native.Nat.{ℕ, ◌<◌}
+use lib.ListN.{get_or, take}
 use Rattle.paper.specs.Limits.{limits}
 use Rattle.paper.specs.Lists.{In}
-use Rattle.paper.specs.Trees.{Input, event, gate, Gate, Tree}
+use Rattle.paper.specs.Trees.{event, gate, Tree}
 use Rattle.paper.specs.Flat.{gate_of}
 use Rattle.paper.specs.Texts.{Placed, lines_of}
-use Rattle.paper.specs.Equations.{dict_in, name_in, line_in, inputs_in}
+use Rattle.paper.specs.Equations.{inputs_in}
 use Rattle.paper.specs.Walks.{OneRoot, LeadsBack, preorder, postorder, is_event, events_of, gates_of}
-use Rattle.paper.specs.Meaning.{event_names, gate_names, place_in, input_for, gate_by, gate_for, chance_for, tree_said}
-use Rattle.paper.specs.Importing.{or_else, events_break, gates_break, broken, Rooted, Says, beyond_limits}
+use Rattle.paper.specs.Meaning.{event_names, gate_names, place_in, input_for, gate_for, chance_for, tree_said}
+use Rattle.paper.specs.Importing.{or_else, events_break, gates_break, broken, Rooted}
 use Rattle.rules.proofs.Cases.{either}
 use Rattle.records.proofs.Breaks.{broken_events, broken_gates}
 use Rattle.lines.specs.Reading.{Capped}
 use Rattle.depthfirst.specs.Inputs.{inputs_of}
-use Rattle.depthfirst.specs.Answers.{InOrder, Numbers, Numberable}
+use Rattle.depthfirst.specs.Answers.{Numbers}
 use Rattle.depthfirst.proofs.All.{input_low}
 use Rattle.depthfirst.proofs.Answers.{none_back, root_said, events_said, gates_said, event_number, gate_number}
 use Rattle.meaning.proofs.Gates.{gates_in, events_in}
-use Rattle.planting.specs.Orders.{input_at, gate_at, chances_among, gates_among, tree_among, Plantable}
+use Rattle.planting.specs.Orders.{input_at, gate_at, chances_among, gates_among, tree_among}
 use Rattle.equations.specs.Knowing.{Known, Climbed}
 use Rattle.equations.specs.Kinds.{CappedGate, KindsOf}
 use Rattle.equations.proofs.Rings.{map_same}
-use Rattle.equations.proofs.Capped.{events_same, events_equal, gates_same, gates_equal, broken_low}
+use Rattle.equations.proofs.Capped.{events_same, events_equal, gates_same, gates_equal}
 
 module _ {text : List ℕ} {c : ℕ} {N F G S I : List ℕ} (k : Known text c N F G S I) {Q : List ℕ} {left : ℕ} (w : Climbed S I c Q left) where
   abbrev ls : List Placed

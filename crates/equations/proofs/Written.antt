@@ -12,7 +12,7 @@ use Rattle.trees.proofs.Exactly.{lawful_read_back}
 use Rattle.equations.specs.Lists.{Lists}
 use Rattle.equations.specs.Contract.{Imports}
 use Rattle.equations.specs.Promises.{Means}
-use Rattle.equations.specs.declared.Imported.{Imported}
+use Rattle.equations.specs.Imported.{Imported}
 use Rattle.equations.proofs.Once.{imports_means}
 
 -- the bytes of a tree are accepted, and say the tree

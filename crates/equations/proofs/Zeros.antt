@@ -12,7 +12,7 @@ use Rattle.equations.specs.Contract.{Imports}
 use Rattle.equations.specs.Contract as contract
 use Rattle.equations.specs.Knowing.{Ready, Cut}
 use Rattle.equations.specs.Judging.{Judged, ends, refused, done, back}
-use Rattle.equations.specs.declared.Imported.{Imported}
+use Rattle.equations.specs.Imported.{Imported}
 
 -- ---- number 9
 

@@ -1,6 +1,6 @@
 -- WHAT AN IMPORT ANSWERS, and what it leaves in all that was lent: 9, then what the text is answered. One freedom: which ring is shown with 17.
 -- Assumes nothing.
-use Rattle.std.specs.Prelude.{◌≡◌, List, [], ◌∷◌, ◌++◌, map, ℕ, ◌-◌, ◌<◌, get_or, length}
+use Rattle.std.specs.Prelude.{◌≡◌, List, ◌++◌, map, ℕ, ◌-◌, ◌<◌, get_or, length}
 use Rattle.paper.specs.Limits.{limits}
 use Rattle.paper.specs.Lists.{In}
 use Rattle.paper.specs.Texts.{Placed, lines_of}
@@ -14,7 +14,7 @@ use Rattle.records.specs.Memory.{pad, memory}
 use Rattle.records.specs.Flattened.{book_of}
 use Rattle.records.specs.declared.Tree.{Tree}
 use Rattle.equations.specs.Lists.{Lists, Long, Zeroed, Worked}
-use Rattle.equations.specs.declared.Imported.{Imported}
+use Rattle.equations.specs.Imported.{Imported}
 
 -- the place of the line that defines a name
 abbrev pub line_at : List Placed → ℕ → ℕ

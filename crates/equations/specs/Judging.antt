@@ -9,7 +9,7 @@ use Rattle.records.specs.Judge.{start}
 use Rattle.records.specs.Memory.{pad, memory}
 use Rattle.records.specs.Flattened.{book_of}
 use Rattle.equations.specs.Contract.{ShowsRing, spots_of, Answers}
-use Rattle.equations.specs.declared.Imported.{Imported}
+use Rattle.equations.specs.Imported.{Imported}
 
 -- refused but for a ring, or done
 pub data Ends (text W W' : List ℕ) (a : Imported) : Type 0 where

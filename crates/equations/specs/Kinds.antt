@@ -1,6 +1,6 @@
 -- THE KIND OF A GATE by the line that defines it: 2 and, 3 or, 4 at least; a k of 2^32 - 1 or more is kept as that.
 -- Assumes nothing.
-use Rattle.std.specs.Prelude.{List, ℕ, ◌<◌, ◌≤◌, get_or}
+use Rattle.std.specs.Prelude.{Option, Some, None, List, ℕ, ◌<◌, ◌≤◌, get_or}
 use Rattle.paper.specs.Trees.{Input, Gate, least_g}
 use Rattle.paper.specs.Flat.{gate_of}
 use Rattle.paper.specs.Grammar.{Line}
@@ -9,22 +9,22 @@ use Rattle.paper.specs.Equations.{name_in, line_in}
 use Rattle.paper.specs.Meaning.{gate_by}
 use Rattle.lines.specs.Reading.{Capped}
 use Rattle.lines.specs.declared.Kind.{Kind}
-use Rattle.lines.specs.declared.Kind.TheVariants.{Bad, Chance, Or, And, AtLeast}
+use Rattle.lines.specs.declared.Kind.TheVariants.{Chance, Or, And, AtLeast}
 
 -- of a line as it is read; for an event any number will do
-abbrev pub kind_number : Kind → ℕ
-kind_number Bad = 3
-kind_number (Chance v) = 3
-kind_number (Or i) = 3
-kind_number (And i) = 2
-kind_number (AtLeast k i) = 4
+abbrev pub kind_number : Option Kind → ℕ
+kind_number None = 3
+kind_number (Some (Chance v)) = 3
+kind_number (Some (Or i)) = 3
+kind_number (Some (And i)) = 2
+kind_number (Some (AtLeast k i)) = 4
 
-abbrev pub least_number : Kind → ℕ
-least_number Bad = 0
-least_number (Chance v) = 0
-least_number (Or i) = 0
-least_number (And i) = 0
-least_number (AtLeast k i) = k
+abbrev pub least_number : Option Kind → ℕ
+least_number None = 0
+least_number (Some (Chance v)) = 0
+least_number (Some (Or i)) = 0
+least_number (Some (And i)) = 0
+least_number (Some (AtLeast k i)) = k
 
 -- the same gate, but that k may be capped
 pub data CappedGate : Gate → Gate → Type 0 where

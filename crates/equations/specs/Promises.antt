@@ -14,7 +14,7 @@ use Rattle.records.specs.Flattened.{book_of}
 use Rattle.records.specs.declared.Tree.{Tree}
 use Rattle.meaning.specs.Said.{under_numbers}
 use Rattle.equations.specs.Lists.{Lists}
-use Rattle.equations.specs.declared.Imported.{Imported}
+use Rattle.equations.specs.Imported.{Imported}
 
 -- two ways to lend the same room
 pub record SameRoom (l k : Lists) : Type 0 where

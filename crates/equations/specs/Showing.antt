@@ -1,7 +1,6 @@
 -- WHAT IS SHOWN: the lines of a ring's names, or the names' first appearances, events then gates.
 -- Assumes nothing.
 use Rattle.std.specs.Prelude.{◌≡◌, Bool, true, false, not, List, ◌++◌, map, ℕ, ◌+◌, ◌-◌, ◌<◌, ◌≤◌, get_or, length, take}
-use Rattle.std.proofs.Math.Seq.{slice}
 use Rattle.paper.specs.Lists.{In}
 use Rattle.paper.specs.Walks.{events_of, gates_of}
 use Rattle.records.specs.Memory.{pad}

@@ -3,8 +3,6 @@ ghost use Rattle.std.specs.Prelude.{List, ℕ, ◌<◌, length};
 ghost use Rattle.tables.specs.Flags.{Says};
 ghost use Rattle.equations.specs.Lists.{lists, Long, NamesFit, OrderFits, Worked};
 
-use tables::clear;
-
 // A place of a text is a number of 32 bits, and so is one more.
 const PLACES: usize = 4_294_967_295;
 
@@ -20,22 +18,12 @@ fn names_fit(
 ) -> bool
     ensures { Says result (NamesFit size heads.now next.now names.now defs.now marks.now amounts.now) }
 {
-    if heads.len() <= size {
-        return false;
-    }
-    if next.len() <= size {
-        return false;
-    }
-    if names.len() <= size {
-        return false;
-    }
-    if defs.len() <= size {
-        return false;
-    }
-    if marks.len() <= size {
-        return false;
-    }
-    size < amounts.len()
+    size < heads.len()
+        && size < next.len()
+        && size < names.len()
+        && size < defs.len()
+        && size < marks.len()
+        && size < amounts.len()
 }
 
 // Whether the lists that the walk and the answer take are.
@@ -49,19 +37,11 @@ fn order_fits(
 ) -> bool
     ensures { Says result (OrderFits size starts.now rights.now order.now ring.now shown.now) }
 {
-    if starts.len() <= size {
-        return false;
-    }
-    if rights.len() <= size {
-        return false;
-    }
-    if order.len() <= size {
-        return false;
-    }
-    if ring.len() <= size {
-        return false;
-    }
-    size < shown.len()
+    size < starts.len()
+        && size < rights.len()
+        && size < order.len()
+        && size < ring.len()
+        && size < shown.len()
 }
 
 // Whether number 9 is not due.
@@ -81,13 +61,9 @@ pub fn long_enough(
 ) -> bool
     ensures { Says result (Long size (lists heads.now next.now names.now defs.now marks.now amounts.now starts.now rights.now order.now ring.now shown.now)) }
 {
-    if PLACES <= size {
-        return false;
-    }
-    if !names_fit(size, heads, next, names, defs, marks, amounts) {
-        return false;
-    }
-    order_fits(size, starts, rights, order, ring, shown)
+    size < PLACES
+        && names_fit(size, heads, next, names, defs, marks, amounts)
+        && order_fits(size, starts, rights, order, ring, shown)
 }
 
 // The nine lists that are work, zero again.
@@ -104,13 +80,13 @@ pub fn clear_work(
 )
     ensures { (R W R' W' : List ℕ) → Worked (lists heads.old next.old names.old defs.old marks.old amounts.old starts.old rights.old order.old R W) (lists heads.new next.new names.new defs.new marks.new amounts.new starts.new rights.new order.new R' W') }
 {
-    clear(heads);
-    clear(next);
-    clear(names);
-    clear(defs);
-    clear(marks);
-    clear(amounts);
-    clear(starts);
-    clear(rights);
-    clear(order);
+    heads.fill(0);
+    next.fill(0);
+    names.fill(0);
+    defs.fill(0);
+    marks.fill(0);
+    amounts.fill(0);
+    starts.fill(0);
+    rights.fill(0);
+    order.fill(0);
 }

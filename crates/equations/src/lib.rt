@@ -11,21 +11,31 @@ ghost use Rattle.writing.specs.Writes.{wrote};
 ghost use Rattle.exporting.specs.Exports.{export_of};
 ghost use Rattle.equations.specs.Lists.{lists};
 ghost use Rattle.equations.specs.Contract.{Imports};
+ghost use Rattle.equations.specs.Imported.{imported_of};
 
-use answering::{judged, refused};
-use judging::Written;
+use answering::judged;
 use lent::{clear_work, long_enough};
+use paper::refusal::Refusal;
 use records::Tree;
-use tables::clear;
 
-// What an import answers: its number, place 0, the place of the line at fault (15 and 16), the length of the ring that is shown (17), and the tree.
-#[derive(Clone, Copy)]
-pub struct Imported {
-    pub number: u8,
-    pub place: usize,
+// Why an import is refused, the place of the line at fault (15 and 16), and the length of the ring that is shown (17).
+#[derive(Clone, Copy, Debug, PartialEq, Eq)]
+pub struct ImportError {
+    pub why: Refusal,
     pub line: usize,
     pub ring: usize,
-    pub tree: Tree,
+}
+
+impl From<Refusal> for ImportError {
+    ghost from_gives = { λ why e. e ≡ record { why = why; line = 0; ring = 0 } };
+
+    fn from(why: Refusal) -> ImportError {
+        ImportError {
+            why,
+            line: 0,
+            ring: 0,
+        }
+    }
 }
 
 // Reads a text of equations. Each list must be longer than the text (9). With 17 `ring` has the lines of a ring; done, `shown` has the place of
@@ -43,17 +53,17 @@ pub fn import(
     order: &mut [u32],
     ring: &mut [u32],
     shown: &mut [u32],
-) -> Imported
-    ensures { Imports text.now (lists heads.old next.old names.old defs.old marks.old amounts.old starts.old rights.old order.old ring.old shown.old) (lists heads.new next.new names.new defs.new marks.new amounts.new starts.new rights.new order.new ring.new shown.new) result }
+) -> Result<Tree, ImportError>
+    ensures { Imports text.now (lists heads.old next.old names.old defs.old marks.old amounts.old starts.old rights.old order.old ring.old shown.old) (lists heads.new next.new names.new defs.new marks.new amounts.new starts.new rights.new order.new ring.new shown.new) (imported_of result) }
 {
     let size = text.len();
     if !long_enough(
         size, heads, next, names, defs, marks, amounts, starts, rights, order, ring, shown,
     ) {
-        return refused(9, 0, 0);
+        return Err(ImportError::from(Refusal::Length));
     }
-    clear(ring);
-    clear(shown);
+    ring.fill(0);
+    shown.fill(0);
     let n = size + 1;
     let a = judged(
         text,
@@ -75,9 +85,9 @@ pub fn import(
     a
 }
 
-// Types a tree into the front of a room: refused as writing the tree would be, then 9 where the text does not fit.
-pub fn export(tree: Tree, room: &mut [u8]) -> Written
-    ensures { wrote result.answer result.bytes room.new ≡ export_of limits tree room.old }
+// Types a tree into the front of a room, and answers how many bytes: refused as writing the tree would be, then 9 where the text does not fit.
+pub fn export(tree: Tree, room: &mut [u8]) -> Result<usize, rules::Refusal>
+    ensures { wrote result room.new ≡ export_of limits tree room.old }
 {
     exporting::export(tree, room)
 }

@@ -4,9 +4,8 @@ ghost use Rattle.std.proofs.Math.Seq.{slice};
 ghost use Rattle.records.specs.Memory.{pad};
 ghost use Rattle.depthfirst.specs.Inputs.{inputs_of};
 ghost use Rattle.equations.specs.Knowing.{Known, Room, Climbed};
-ghost use Rattle.equations.specs.Showing.{lines_at, RingAt, agree, among, spots_at, Showable, Adds, ShowsNames};
+ghost use Rattle.equations.specs.Showing.{lines_at, RingAt, among, spots_at, Showable, Adds, ShowsNames};
 
-use names::place;
 use planting::is_event;
 
 // The lines that define the names of a ring, which stand on the stack from `from` up to `to`.
@@ -14,22 +13,10 @@ pub fn show_ring(stack: &[u32], from: usize, to: usize, defs: &[u32], ring: &mut
     requires { RingAt stack.now from to defs.now ring.old }
     ensures { ring.new ≡ pad (length ring.old) 0 (lines_at defs.now (slice from to stack.now)) }
 {
-    let mut i = from;
-    while i < to {
-        let n = place(stack[i]);
-        let k = i - from;
-        ring[k] = defs[n] - 1;
-        i += 1;
+    for i in from..to {
+        let n = stack[i] as usize;
+        ring[i - from] = defs[n] - 1;
     }
-}
-
-fn is_wanted(event: bool, events: bool) -> bool
-    ensures { result ≡ agree event events }
-{
-    if event {
-        return events;
-    }
-    !events
 }
 
 // Shows the places of an order's events, or of its gates, behind the first `from` numbers: how many stand there then.
@@ -48,15 +35,13 @@ fn show(
     ensures { Adds (spots_at names.now (among events (inputs_of starts.now inputs.now) (take left order.now))) shown.old from shown.new result }
 {
     let mut u = from;
-    let mut i: usize = 0;
-    while i < left {
-        let x = place(order[i]);
-        let event = is_event(starts, inputs, count, x);
-        i += 1;
-        if is_wanted(event, events) {
-            shown[u] = names[x];
-            u += 1;
+    for i in 0..left {
+        let x = order[i] as usize;
+        if is_event(starts, inputs, count, x) != events {
+            continue;
         }
+        shown[u] = names[x];
+        u += 1;
     }
     u
 }

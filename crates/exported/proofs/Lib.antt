@@ -1,4 +1,2 @@
 pub mod Answers
-pub mod Joining
-pub mod Planning
 pub mod TwoListings

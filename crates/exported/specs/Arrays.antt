@@ -1,8 +1,7 @@
 -- A tree as six arrays of numbers: chances; sites; each gate's kind, k and n; the inputs of all gates.
 -- Assumes nothing.
-use Rattle.std.specs.Prelude.{Bool, cond, List, ℕ, eqb}
-use Rattle.rules.specs.Answers.{verdict}
-use Rattle.records.specs.declared.Reading.{Reading}
+use Rattle.std.specs.Prelude.{Bool, cond, List, ℕ, eqb, Result, Ok, Err}
+use Rattle.rules.specs.declared.Refusal.{Refusal}
 use Rattle.records.specs.declared.Tree.{Tree}
 use Rattle.arrays.specs.Chances.{chances_of, sites_of, events_of}
 
@@ -36,5 +35,7 @@ tree_from events gates sited a = record {
 abbrev pub filled : ℕ → Tree → Arrays → Arrays
 filled number t before = cond (eqb number 0) (arrays_of t) before
 
-abbrev pub after : Reading → Arrays → Arrays
-after r before = filled (verdict r.answer).number r.tree before
+-- and after a reading
+abbrev pub after : Result Tree Refusal → Arrays → Arrays
+after (Ok t) before = arrays_of t
+after (Err a) before = before

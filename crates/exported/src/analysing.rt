@@ -1,27 +1,38 @@
 // A tree analysed, also under the settings of an edition, and the chances under them, for other languages.
-ghost use Rattle.std.specs.Prelude.{◌≡◌};
+ghost use Rattle.std.specs.Prelude.{◌≡◌, Result};
+ghost use Rattle.paper.specs.Answers.{Verdict};
 ghost use Rattle.memory.specs.Memory.{memory};
-ghost use Rattle.memory.specs.declared.Analysis.{Analysis};
+ghost use Rattle.memory.specs.Analysis.{Analysis, analysis_of};
 ghost use Rattle.analyser.specs.Analysed.{Analysed};
 ghost use Rattle.settings.specs.States.{ChancesForced};
-ghost use Rattle.settings.specs.declared.Judgement.{Judgement};
 ghost use Rattle.seasons.specs.Seasons.{AnalysedUnder};
-ghost use Rattle.exported.specs.Numbers.{of_analysis, of_judgement};
+ghost use Rattle.exported.specs.Numbers.{of_analysis, of_verdict};
 
-use memory::Analysis;
+use memory::Tables;
+use paper::refusal::Refused;
 
 // Puts the numbers of an analysis into an array.
-fn tell(r: Analysis, answer: &mut [u64; 6])
-    ensures { answer.new ≡ of_analysis r }
+fn tell(r: Result<Tables, Refused>, answer: &mut [u64; 6])
+    ensures { answer.new ≡ of_analysis (analysis_of r) }
 {
-    *answer = [
-        r.number as u64,
-        r.place as u64,
-        r.nodes as u64,
-        r.cut_nodes as u64,
-        r.root as u64,
-        r.cut_root as u64,
-    ];
+    *answer = match r {
+        Ok(t) => [
+            0,
+            0,
+            t.nodes as u64,
+            t.cut_nodes as u64,
+            t.root as u64,
+            t.cut_root as u64,
+        ],
+        Err(refused) => [
+            refused.why.number() as u64,
+            refused.place as u64,
+            0,
+            0,
+            0,
+            0,
+        ],
+    };
 }
 
 // Analyses a tree. The answer: number, place, nodes, cut nodes, root, cut root.
@@ -80,8 +91,10 @@ pub extern "C" fn matticklet_chances_under(
     chances: &mut [u32],
     answer: &mut [u64; 2],
 )
-    ensures { (j : Judgement) × (ChancesForced store.now edition chances.old chances.new j.number j.place × (answer.new ≡ of_judgement j)) }
+    ensures { (v : Verdict) × (ChancesForced store.now edition chances.old chances.new v.number v.place × (answer.new ≡ of_verdict v)) }
 {
-    let j = settings::chances_under(store, edition, chances);
-    *answer = [j.number as u64, j.place as u64];
+    *answer = match settings::chances_under(store, edition, chances) {
+        Ok(()) => [0, 0],
+        Err(refused) => [refused.why.number() as u64, refused.place as u64],
+    };
 }

@@ -9,28 +9,32 @@ mod moving; // a tree with sites, and without
 mod ranking; // which event matters most
 mod reporting; // the cuts that the review rule tells
 
-ghost use Rattle.std.specs.Prelude.{◌≡◌};
+ghost use Rattle.std.specs.Prelude.{◌≡◌, [], ◌∷◌, Result};
+ghost use Rattle.paper.specs.Refusals.{number_of};
+ghost use Rattle.paper.specs.declared.refusal.Refusal.{Refusal};
 ghost use Rattle.paper.specs.Limits.{limits};
 ghost use Rattle.records.specs.Judge.{outcome};
 ghost use Rattle.records.specs.Memory.{in_memory};
-ghost use Rattle.writing.specs.Writes.{write_of};
+ghost use Rattle.writing.specs.Writes.{write_of, wrote};
 ghost use Rattle.listing.specs.Answers.{Answered};
+ghost use Rattle.listing.specs.Results.{count_of, used_of, last_of, finished_of};
 ghost use Rattle.listing.specs.declared.Listed.{Listed};
+ghost use Rattle.bracket.specs.Answers.{low_of, high_of};
 ghost use Rattle.bracket.specs.Bracketed.{Bracketed};
 ghost use Rattle.bracket.specs.declared.Ends.{Ends};
 ghost use Rattle.exporting.specs.Exports.{export_of};
 ghost use Rattle.equations.specs.Lists.{lists};
 ghost use Rattle.equations.specs.Contract.{Imports};
-ghost use Rattle.equations.specs.declared.Imported.{Imported};
+ghost use Rattle.equations.specs.Imported.{Imported};
 ghost use Rattle.sizes.specs.Counted.{Counted};
-ghost use Rattle.sizes.specs.declared.Tally.{Tally};
 ghost use Rattle.folder.specs.Contract.{lent, lends, Gathers};
-ghost use Rattle.folder.specs.declared.Gathered.{Gathered};
+ghost use Rattle.folder.specs.Gathered.{Gathered};
 ghost use Rattle.arrays.specs.Chances.{Blank};
 ghost use Rattle.exported.specs.Arrays.{arrays, tree_from, filled, after};
 ghost use Rattle.exported.specs.Numbers.{of_reading, of_writing, of_listing, of_bracket, of_import, of_tally, of_gathered};
 
 use arrays::{events_of, put_events};
+use paper::refusal::Refusal;
 use paper::{EVENTS, GATES, IN_ALL};
 use records::Tree;
 
@@ -52,14 +56,10 @@ fn fill(
     if number == 0 {
         let events = t.events;
         put_events(events, count, chances, sites);
-        let ks = t.kinds;
-        *kinds = ks;
-        let ls = t.leasts;
-        *leasts = ls;
-        let ns = t.sizes;
-        *sizes = ns;
-        let is = t.inputs;
-        *inputs = is;
+        kinds.copy_from_slice(&t.kinds);
+        leasts.copy_from_slice(&t.leasts);
+        sizes.copy_from_slice(&t.sizes);
+        inputs.copy_from_slice(&t.inputs);
     }
 }
 
@@ -107,19 +107,21 @@ pub extern "C" fn matticklet_read(
 {
     // The analyser's own call would hand the tree on once more.
     let r = records::read(bytes);
-    let a = r.answer;
-    let t = r.tree;
-    let number = rules::number(a);
-    let place = rules::place(a);
+    let number = rules::number(&r) as u64;
+    let place = rules::place(&r) as u64;
+    let Ok(t) = r else {
+        *answer = [number, place, 0, 0, 0];
+        return;
+    };
     *answer = [
-        number as u64,
-        place as u64,
+        0,
+        0,
         t.event_count as u64,
         t.gate_count as u64,
         t.sited as u64,
     ];
     fill(
-        number,
+        0,
         t.event_count,
         t,
         chances,
@@ -129,6 +131,18 @@ pub extern "C" fn matticklet_read(
         sizes,
         inputs,
     );
+}
+
+// The numbers of what was written: number, place, bytes.
+fn numbers_of(w: Result<usize, rules::Refusal>) -> [u64; 3]
+    ensures { result ≡ of_writing (wrote w []) }
+{
+    let number = rules::number(&w) as u64;
+    let place = rules::place(&w) as u64;
+    match w {
+        Ok(n) => [0, 0, n as u64],
+        Err(_) => [number, place, 0],
+    }
 }
 
 // Writes the bytes of the tree in six arrays to the front of room. The answer: number, place, bytes.
@@ -153,12 +167,7 @@ pub extern "C" fn matticklet_write(
         events, gates, sited, chances, sites, kinds, leasts, sizes, inputs,
     );
     let w = analyser::write(tree, room);
-    let a = w.answer;
-    *answer = [
-        rules::number(a) as u64,
-        rules::place(a) as u64,
-        w.bytes as u64,
-    ];
+    *answer = numbers_of(w);
 }
 
 // Lists the cuts of a lent cut diagram, from the beginning or after the set `s`. The answer: number, place, cuts, bytes used, finished, and
@@ -174,18 +183,25 @@ pub extern "C" fn matticklet_list(
     room: &mut [u8],
     answer: &mut [u64; ending::LISTING],
 )
-    ensures { (r : Listed) × (Answered events cuts.now count root begin s.now room.old room.new r.number r.place r.count r.used r.last r.finished × (answer.new ≡ of_listing r)) }
+    ensures { (r : Result Listed Refusal) × (Answered events cuts.now count root begin s.now room.old room.new (number_of r) 0 (count_of r) (used_of r) (last_of r) (finished_of r) × (answer.new ≡ of_listing r)) }
 {
-    let r = analyser::list(cuts, events, count, root, begin, *s, room);
-    let last = r.last;
-    let head = [
-        r.number as u64,
-        r.place as u64,
-        r.count as u64,
-        r.used as u64,
-        r.finished as u64,
-    ];
-    ending::put(&head, &last, answer);
+    match analyser::list(cuts, events, count, root, begin, *s, room) {
+        Ok(l) => {
+            let head = [0, 0, l.count as u64, l.used as u64, u64::from(l.finished)];
+            ending::put(&head, &l.last, answer);
+        }
+        Err(why) => ending::put(&[why.number() as u64, 0, 0, 0, 0], &sets::empty(), answer),
+    }
+}
+
+// The number and place of a call whose refusals have place 0.
+fn plain(r: Result<(), Refusal>) -> [u64; 2]
+    ensures { result ≡ number_of r ∷ 0 ∷ [] }
+{
+    match r {
+        Ok(()) => [0, 0],
+        Err(why) => [why.number() as u64, 0],
+    }
 }
 
 // Encloses the chance of the root of a lent diagram. The answer: number, place, low, high.
@@ -200,10 +216,13 @@ pub extern "C" fn matticklet_bracket(
     highs: &mut [u32],
     answer: &mut [u64; 4],
 )
-    ensures { (r : Ends) × (Bracketed events nodes.now count root chances.now r.number r.place r.low r.high lows.old highs.old lows.new highs.new × (answer.new ≡ of_bracket r)) }
+    ensures { (r : Result Ends Refusal) × (Bracketed events nodes.now count root chances.now (number_of r) 0 (low_of r) (high_of r) lows.old highs.old lows.new highs.new × (answer.new ≡ of_bracket r)) }
 {
     let r = analyser::bracket(nodes, events, count, root, chances, lows, highs);
-    *answer = [r.number as u64, r.place as u64, r.low, r.high];
+    *answer = match r {
+        Ok(ends) => [0, 0, ends.low, ends.high],
+        Err(why) => [why.number() as u64, 0, 0, 0],
+    };
 }
 
 // Reads typed equations into five arrays. The answer: number, place, line, ring, events, gates. A refusal leaves the arrays as they are.
@@ -231,21 +250,18 @@ pub extern "C" fn matticklet_import(
 )
     ensures { (a : Imported) × (Imports text.now (lists heads.old next.old names.old defs.old marks.old amounts.old starts.old rights.old order.old ring.old shown.old) (lists heads.new next.new names.new defs.new marks.new amounts.new starts.new rights.new order.new ring.new shown.new) a × ((answer.new ≡ of_import a) × (arrays chances.new sites.new kinds.new leasts.new sizes.new inputs.new ≡ filled a.number a.tree (arrays chances.old sites.old kinds.old leasts.old sizes.old inputs.old)))) }
 {
-    let a = equations::import(
+    let imported = equations::import(
         text, heads, next, names, defs, marks, amounts, starts, rights, order, ring, shown,
     );
-    let t = a.tree;
-    *answer = [
-        a.number as u64,
-        a.place as u64,
-        a.line as u64,
-        a.ring as u64,
-        t.event_count as u64,
-        t.gate_count as u64,
-    ];
-    fill(
-        a.number, EVENTS, t, chances, sites, kinds, leasts, sizes, inputs,
-    );
+    match imported {
+        Ok(t) => {
+            *answer = [0, 0, 0, 0, t.event_count as u64, t.gate_count as u64];
+            fill(0, EVENTS, t, chances, sites, kinds, leasts, sizes, inputs);
+        }
+        Err(e) => {
+            *answer = [e.why.number() as u64, 0, e.line as u64, e.ring as u64, 0, 0];
+        }
+    }
 }
 
 // Types the tree in six arrays to the front of room. The answer: number, place, bytes.
@@ -270,12 +286,7 @@ pub extern "C" fn matticklet_export(
         events, gates, sited, chances, sites, kinds, leasts, sizes, inputs,
     );
     let w = equations::export(tree, room);
-    let a = w.answer;
-    *answer = [
-        rules::number(a) as u64,
-        rules::place(a) as u64,
-        w.bytes as u64,
-    ];
+    *answer = numbers_of(w);
 }
 
 // Counts the sets of a lent cut diagram by size. The answer: number, place.
@@ -291,10 +302,10 @@ pub extern "C" fn matticklet_sizes(
     reached: &mut [u64],
     answer: &mut [u64; 2],
 )
-    ensures { (r : Tally) × (Counted events cuts.now count root r.number r.place counts.old less.old work.old reached.old counts.new less.new work.new reached.new × (answer.new ≡ of_tally r)) }
+    ensures { (r : Result (Unit {0}) Refusal) × (Counted events cuts.now count root (number_of r) 0 counts.old less.old work.old reached.old counts.new less.new work.new reached.new × (answer.new ≡ of_tally r)) }
 {
     let r = sizes::sizes(cuts, events, count, root, counts, less, work, reached);
-    *answer = [r.number as u64, r.place as u64];
+    *answer = plain(r);
 }
 
 // Counts the cuts of a folder's trees by size. The answer: number, place, tree.
@@ -322,5 +333,12 @@ pub extern "C" fn matticklet_folder(
         bytes, lengths, nodes, cuts, gates, memo, heads, next, marks, own, counts, less, work,
         reached,
     );
-    *answer = [r.number as u64, r.place as u64, r.tree as u64];
+    *answer = match r {
+        Ok(()) => [0, 0, 0],
+        Err(refused) => [
+            refused.why.number() as u64,
+            refused.place as u64,
+            refused.tree as u64,
+        ],
+    };
 }

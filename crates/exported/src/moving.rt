@@ -4,6 +4,8 @@ ghost use Rattle.paper.specs.Limits.{limits};
 ghost use Rattle.moves.specs.Moves.{to_sites, from_sites};
 ghost use Rattle.exported.specs.Numbers.{of_writing};
 
+use crate::numbers_of;
+
 // Writes the tree of some bytes with sites, 0 where it had none, to the front of room. The answer: number, place, bytes.
 #[unsafe(no_mangle)]
 pub extern "C" fn matticklet_to_sites(bytes: &[u8], room: &mut [u8], answer: &mut [u64; 3])
@@ -11,12 +13,7 @@ pub extern "C" fn matticklet_to_sites(bytes: &[u8], room: &mut [u8], answer: &mu
     ensures room_after { room.new ≡ (to_sites limits bytes.now room.old).room }
 {
     let w = moves::to_sites(bytes, room);
-    let a = w.answer;
-    *answer = [
-        rules::number(a) as u64,
-        rules::place(a) as u64,
-        w.bytes as u64,
-    ];
+    *answer = numbers_of(w);
 }
 
 // Writes it without sites: 22 where one is not 0. The answer: number, place, bytes.
@@ -26,10 +23,5 @@ pub extern "C" fn matticklet_from_sites(bytes: &[u8], room: &mut [u8], answer: &
     ensures room_after { room.new ≡ (from_sites limits bytes.now room.old).room }
 {
     let w = moves::from_sites(bytes, room);
-    let a = w.answer;
-    *answer = [
-        rules::number(a) as u64,
-        rules::place(a) as u64,
-        w.bytes as u64,
-    ];
+    *answer = numbers_of(w);
 }

@@ -1,8 +1,8 @@
 // Which event matters most, for other languages.
 ghost use Rattle.std.specs.Prelude.{◌≡◌};
 ghost use Rattle.importance.specs.Weighed.{Weighed};
-ghost use Rattle.importance.specs.declared.Reply.{Reply};
-ghost use Rattle.exported.specs.Numbers.{of_reply};
+ghost use Rattle.paper.specs.Answers.{Verdict};
+ghost use Rattle.exported.specs.Numbers.{of_verdict};
 
 // How much each event matters to the chance of a lent diagram's root, and the events ranked. The answer: number, place.
 #[unsafe(no_mangle)]
@@ -20,10 +20,10 @@ pub extern "C" fn matticklet_importance(
     marks: &mut [u32],
     answer: &mut [u64; 2],
 )
-    ensures { (r : Reply) × (Weighed events nodes.now count root chances.now r.number r.place lows.old highs.old rank.old down.old up.old marks.old lows.new highs.new rank.new down.new up.new marks.new × (answer.new ≡ of_reply r)) }
+    ensures { (v : Verdict) × (Weighed events nodes.now count root chances.now v.number v.place lows.old highs.old rank.old down.old up.old marks.old lows.new highs.new rank.new down.new up.new marks.new × (answer.new ≡ of_verdict v)) }
 {
     let r = importance::importance(
         nodes, events, count, root, chances, lows, highs, rank, down, up, marks,
     );
-    *answer = [r.number as u64, r.place as u64];
+    *answer = crate::plain(r);
 }

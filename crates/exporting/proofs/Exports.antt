@@ -2,25 +2,25 @@
 -- Assumes nothing.
 use mathlib.Core.Path.{◌≡◌, refl, sym, ap, ◌∙◌, subst}
 use mathlib.Core.List.{List, [], ◌∷◌, ◌++◌}
-use Prim.Native.Nat.{ℕ, zero, suc, ◌+◌, ◌≤◌, ◌<◌}
+use Prim.Native.Nat.{ℕ, zero, suc, ◌≤◌, ◌<◌}
 use native.Mathlib.Omega.{arith}
 use lib.ListN.{length, get_or, take, drop, length-append}
 use lib.Seq.{take-suc, get_or-take}
+use Rattle.std.specs.Prelude.{Ok, Err}
 use Rattle.paper.specs.Limits.{limits}
 use Rattle.paper.specs.Lists.{sum}
 use Rattle.paper.specs.Exporting.{text_of}
-use Rattle.rules.specs.Answers.{verdict}
-use Rattle.rules.specs.declared.Answer.{Answer}
-use Rattle.rules.specs.declared.Answer.TheVariants.{Done, Room}
-use Rattle.records.specs.Judge.{Book, accept, answer_of, outcome}
+use Rattle.rules.specs.declared.Refusal.{Refusal}
+use Rattle.rules.specs.declared.Refusal.TheVariants.{Room}
+use Rattle.records.specs.Judge.{Book, accept, refuse, outcome}
 use Rattle.records.specs.Memory.{pad, memory, tabulate}
 use Rattle.records.specs.Trees.{tree_in}
 use Rattle.records.specs.declared.Tree.{Tree}
 use Rattle.records.proofs.Pad.{pad_take}
 use Rattle.judging.specs.Bytes.{bytes_of, told}
-use Rattle.judging.specs.Inner.{Surveyed}
+use Rattle.judging.specs.Inner.{Measured}
 use Rattle.writing.specs.Writes.{Wrote, wrote}
-use Rattle.writing.proofs.Writing.{done_is, laid_short, laid_done, laid_refused}
+use Rattle.writing.proofs.Writing.{laid_short, laid_done, laid_refused}
 use Rattle.trees.proofs.Lawful.{lawful}
 use Rattle.trees.proofs.ReadBack.{read_told}
 use Rattle.exporting.specs.Laying.{Laid, Planned, Typable}
@@ -81,33 +81,30 @@ module _ (t : Tree) (b : Book) (e : outcome limits (bytes_of t) ≡ accept b) wh
 
 -- ---- the three cases
 
-pub export_refused : (t : Tree) (room : List ℕ) (a : Answer) → a ≡ answer_of (outcome limits (bytes_of t)) → ((verdict a).number ≡ 0 → ⊥) → wrote a 0 room ≡ export_of limits t room
+pub export_refused : (t : Tree) (room : List ℕ) (a : Refusal) → outcome limits (bytes_of t) ≡ refuse a → wrote (Err a) room ≡ export_of limits t room
 unfolding export_of
-export_refused t room a e d = laid_refused (outcome limits (bytes_of t)) (text_of (tree_in t)) room a e d
+export_refused t room a e = laid_refused (outcome limits (bytes_of t)) (text_of (tree_in t)) room a e
 
-module _ {t : Tree} {a : Answer} {n : ℕ} (v : Surveyed t a n) (done : (verdict a).number ≡ 0) where
-  is_done : a ≡ Done
-  is_done = done_is a done
-
+module _ {t : Tree} {n : ℕ} (v : Measured t n) where
   pub done_typable : length t.sizes ≡ 512 → length t.inputs ≡ 4096 → Typable t
-  done_typable long wide = let (b, e) = v.accepted is_done in typable t b e long wide
+  done_typable long wide = let (b, e) = v.accepted in typable t b e long wide
 
   -- the text was counted in a room of its own
   module _ {spare spare' : List ℕ} {k : ℕ} (count : Laid spare 0 (text_of (tree_in t)) spare' k) (room : List ℕ) where
-    pub done_short : length room < k → wrote Room 0 room ≡ export_of limits t room
+    pub done_short : length room < k → wrote (Err Room) room ≡ export_of limits t room
     unfolding export_of
-    done_short h = let (b, e) = v.accepted is_done in let c = count.to in laid_short (outcome limits (bytes_of t)) (text_of (tree_in t)) room b e (omega arith)
+    done_short h = let (b, e) = v.accepted in let c = count.to in laid_short (outcome limits (bytes_of t)) (text_of (tree_in t)) room b e (omega arith)
 
-    pub done_exports : k ≤ length room → {room' : List ℕ} {end : ℕ} → Laid room 0 (text_of (tree_in t)) room' end → wrote a end room' ≡ export_of limits t room
+    pub done_exports : k ≤ length room → {room' : List ℕ} {end : ℕ} → Laid room 0 (text_of (tree_in t)) room' end → wrote (Ok end) room' ≡ export_of limits t room
     unfolding export_of
     done_exports h {room'} {end} p =
-        let (b, e) = v.accepted is_done in
+        let (b, e) = v.accepted in
         let c = count.to in
         let q = p.to in
         let l : end ≡ length (text_of (tree_in t)) = omega arith in
         let fits : length (text_of (tree_in t)) ≤ length room = omega arith in
         let is : room' ≡ text_of (tree_in t) ++ drop (length (text_of (tree_in t))) room = (p.put (omega arith)).is ∙ ap (λ (j : ℕ). text_of (tree_in t) ++ drop j room) l in
-        rw is_done (laid_done (outcome limits (bytes_of t)) (text_of (tree_in t)) room b e fits l is)
+        laid_done (outcome limits (bytes_of t)) (text_of (tree_in t)) room b e fits l is
 
 -- THE ONE OUTCOME of an export
 abbrev pub Exports : Tree → List ℕ → Wrote → Type 0

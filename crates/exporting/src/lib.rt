@@ -9,27 +9,23 @@ ghost use Rattle.paper.specs.Limits.{limits};
 ghost use Rattle.writing.specs.Writes.{wrote};
 ghost use Rattle.exporting.specs.Exports.{export_of};
 
-use judging::{Written, survey, unwritten};
+use judging::survey;
 use lines::lay_text;
 use records::Tree;
-use rules::{Answer, number};
+use rules::Refusal;
 
-// Types a tree into the front of room: answered as its bytes would be, then Room where the text does not fit. A refusal
-// writes nothing, and the room behind the text stays.
-pub fn export(tree: Tree, room: &mut [u8]) -> Written
-    ensures { wrote result.answer result.bytes room.new ≡ export_of limits tree room.old }
+// Types a tree into the front of room, and answers how many bytes: refused as its bytes would be, then Room where the text
+// does not fit. A refusal writes nothing, and the room behind the text stays.
+pub fn export(tree: Tree, room: &mut [u8]) -> Result<usize, Refusal>
+    ensures { wrote result room.new ≡ export_of limits tree room.old }
 {
-    let v = survey(tree);
-    let a = v.answer;
-    if number(a) == 0 {
-        // A room of one byte counts the text, and keeps none of it.
-        let mut count = [0u8; 1];
-        let n = lay_text(&mut count, tree);
-        if room.len() < n {
-            return unwritten(Answer::Room);
-        }
-        let bytes = lay_text(room, tree);
-        return Written { answer: a, bytes };
+    survey(tree)?;
+    // A room of one byte counts the text, and keeps none of it.
+    let mut count = [0u8; 1];
+    let n = lay_text(&mut count, tree);
+    if room.len() < n {
+        return Err(Refusal::Room);
     }
-    unwritten(a)
+    let bytes = lay_text(room, tree);
+    Ok(bytes)
 }

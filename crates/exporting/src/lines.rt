@@ -12,7 +12,7 @@ use crate::pieces::{lay, lay_input, lay_number, lay_row};
 use paper::{GATES, IN_ALL};
 use records::Tree;
 
-// Lays the right side of a gate's equation.
+// Lays the right side of a gate's equation. By hand: the kind is a byte of the format (2 and, 3 or, 4 at least), which C lends as such.
 fn lay_right(
     room: &mut [u8],
     at: usize,
@@ -73,12 +73,10 @@ fn lay_gates<'a>(
 {
     let mut at = 0;
     let mut first = 0;
-    let mut g = 0;
-    while g < gates {
+    for g in 0..gates {
         let n = sizes[g] as usize;
         at = lay_gate(room, at, g, kinds[g], leasts[g], inputs, first, n);
         first += n;
-        g += 1;
     }
     at
 }
@@ -99,11 +97,9 @@ fn lay_chances(room: &mut [u8], at: usize, tree: Tree) -> usize
     ensures { Laid room.old at (chances_of tree) room.new result }
 {
     let mut end = at;
-    let mut i = 0;
-    while i < tree.event_count {
+    for i in 0..tree.event_count {
         let e = tree.events[i];
         end = lay_chance(room, end, i, e.chance);
-        i += 1;
     }
     end
 }
@@ -113,14 +109,13 @@ pub fn lay_text(room: &mut [u8], tree: Tree) -> usize
     requires { Typable tree }
     ensures { Laid room.old 0 (text_of (tree_in tree)) room.new result }
 {
-    let gates = tree.gate_count;
     let at = lay_gates(
         room,
         &tree.kinds,
         &tree.leasts,
         &tree.sizes,
         &tree.inputs,
-        gates,
+        tree.gate_count,
     );
     lay_chances(room, at, tree)
 }

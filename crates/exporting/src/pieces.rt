@@ -69,10 +69,8 @@ fn lay_tail(
     ensures { Laid room.old at (tail_of sep.now (drop 1 (codes inputs.now first n))) room.new result × (result ≤ at + 1900) }
 {
     let mut end = at;
-    let mut i = 1;
-    while i < n {
+    for i in 1..n {
         end = lay_next(room, end, sep, inputs[first + i]);
-        i += 1;
     }
     end
 }

@@ -16,7 +16,7 @@ use Rattle.tables.proofs.Lent.{root_ordered}
 use Rattle.sizes.proofs.Counts.{count_sized}
 use Rattle.memory.specs.Memory.{Memory}
 use Rattle.memory.specs.Outcome.{Done}
-use Rattle.memory.specs.declared.Analysis.{Analysis}
+use Rattle.memory.specs.Analysis.{Analysis}
 use Rattle.totals.specs.Adding.{counts_of}
 
 -- a cut diagram of some events is one of the most events that a tree may have

@@ -8,15 +8,20 @@ use native.Mathlib.Numerals.{add-one}
 use native.Mathlib.Omega.{arith}
 use lib.ListN.{length, get_or, take, drop}
 use lib.Seq.{take-suc, take_all}
+use Rattle.std.specs.Prelude.{Option, Some, None, Err, ok_or}
 use Rattle.paper.specs.Lists.{sum}
 use Rattle.paper.specs.Limits.{limits}
+use Rattle.paper.specs.Refusals.{number}
+use Rattle.paper.specs.declared.refusal.Refusal.{Refusal}
+use Rattle.paper.specs.declared.refusal.Refusal.TheVariants.{TooMany}
+use Rattle.paper.specs.declared.refusal.Refused.{Refused}
 use Rattle.paper.specs.Trees.{Tree}
 use Rattle.tables.specs.Table.{den}
 use Rattle.tables.specs.Lent.{Lent}
 use Rattle.build.proofs.Gates.{sum_next, sum_front}
 use Rattle.memory.specs.Memory.{Memory}
 use Rattle.memory.specs.Outcome.{at}
-use Rattle.memory.specs.declared.Analysis.{Analysis}
+use Rattle.memory.specs.Analysis.{Analysis}
 use Rattle.memory.proofs.Before.{SameLengths}
 use Rattle.analyser.specs.Analysed.{Analysed}
 use Rattle.totals.specs.Adding.{Areas, counts_of, Due}
@@ -24,8 +29,9 @@ use Rattle.totals.proofs.Adding.{due_same}
 use Rattle.folder.specs.Parts.{parts}
 use Rattle.folder.specs.Passing.{Passes, Refuses, AllPass}
 use Rattle.folder.specs.Contract.{Lends, lends, Answers}
-use Rattle.folder.specs.Steps.{Sums, Tried}
-use Rattle.folder.specs.declared.Gathered.{Gathered}
+use Rattle.folder.specs.Steps.{Sums, due, Tried}
+use Rattle.folder.specs.Gathered.{Gathered, gathered_of}
+use Rattle.folder.specs.declared.RefusedTree.{RefusedTree}
 use Rattle.folder.proofs.Parts.{parts_count, part_at}
 use Rattle.folder.proofs.Passing.{passes_from, refuses_from, analysed_refused, analysed_passed, all_more}
 use Rattle.folder.proofs.Totals.{sums_more}
@@ -71,6 +77,20 @@ areas_kept h a = record {
   reached = rw (h.memory.cuts, h.reached) a.reached;
 }
 
+-- ---- a row's answer
+
+pub tree_says : (r : Refused) (i : ℕ) → Answers (gathered_of (Err (record { why = r.why; place = r.place; tree = i }))) (number r.why) r.place i
+tree_says r i = record { number_is = refl; place_is = refl; tree_is = refl }
+
+-- of no tree
+pub none_says : {r : RefusedTree} {why : Refusal} → (r.why ≡ why) × (r.place ≡ 0) × (r.tree ≡ 0) → Answers (gathered_of (Err r)) (number why) 0 0
+none_says e = record { number_is = ap number e.0; place_is = e.1; tree_is = e.2 }
+
+-- behind the last tree
+pub end_says : (so_far : Option (Unit {0})) {r : RefusedTree} → (r.why ≡ TooMany) × (r.place ≡ 0) × (r.tree ≡ 0) → Answers (gathered_of (ok_or so_far r)) (due so_far) 0 0
+end_says (Some u) e = record { number_is = refl; place_is = refl; tree_is = refl }
+end_says None e = none_says e
+
 -- ---- an analysed tree
 
 module _ {bytes : List ℕ} {m m' : Memory} {a : Analysis} (x : Analysed bytes m m' a) (z : a.number ≡ 0) where
@@ -83,24 +103,24 @@ module _ {bytes : List ℕ} {m m' : Memory} {a : Analysis} (x : Analysed bytes m
 -- ---- tree after tree
 
 -- i trees have passed: where the next one starts, and what is due; l is what was lent at first, and k what it has become
-pub record Going (bytes lengths : List ℕ) (l k : Lends) (i start : ℕ) (L : List ℕ) (due : ℕ) : Type 0 where
+pub record Going (bytes lengths : List ℕ) (l k : Lends) (i start : ℕ) (L : List ℕ) (so_far : Option (Unit {0})) : Type 0 where
   pub kept : Kept l k
   pub count : i ≤ length lengths
   pub start_is : start ≡ sum (take i lengths)
   pub trees : List Tree
   pub passed : AllPass l.memory (take i (parts bytes lengths)) trees
-  pub sums : Sums trees L due
+  pub sums : Sums trees L so_far
   pub first : i ≡ 0 → k ≡ l
 
-pub going_none : (bytes lengths : List ℕ) (l : Lends) {L : List ℕ} → Sums [] L 0 → Going bytes lengths l l 0 0 L 0
+pub going_none : (bytes lengths : List ℕ) (l : Lends) {L : List ℕ} → Sums [] L (Some tt) → Going bytes lengths l l 0 0 L (Some tt)
 going_none bytes lengths l s = record { kept = kept_none l; count = omega arith; start_is = refl; trees = []; passed = tt; sums = s; first = λ _. refl }
 
-module _ {bytes lengths : List ℕ} {l k : Lends} {i start : ℕ} {L : List ℕ} {due : ℕ} (g : Going bytes lengths l k i start L due) where
+module _ {bytes lengths : List ℕ} {l k : Lends} {i start : ℕ} {L : List ℕ} {so_far : Option (Unit {0})} (g : Going bytes lengths l k i start L so_far) where
   -- behind the last tree
-  pub going_end : {a : Gathered} → length lengths ≤ i → Answers a due 0 0 → Tried bytes lengths l k L a
+  pub going_end : {a : Gathered} → length lengths ≤ i → Answers a (due so_far) 0 0 → Tried bytes lengths l k L a
   going_end h a =
       let n : length (parts bytes lengths) ≤ i = let e = parts_count bytes lengths in omega arith in
-      Tried.passed g.trees due (subst (λ bs. AllPass l.memory bs g.trees) (take_all i (parts bytes lengths) n) g.passed) g.sums a
+      Tried.passed g.trees so_far (subst (λ bs. AllPass l.memory bs g.trees) (take_all i (parts bytes lengths) n) g.passed) g.sums a
 
   module _ (h : i < length lengths) where
     -- the next tree lies within the bytes
@@ -126,7 +146,7 @@ module _ {bytes lengths : List ℕ} {l k : Lends} {i start : ℕ} {L : List ℕ}
           (λ (z, few). ap (λ m. lends m k.less k.work k.reached) (s few) ∙ g.first z)
 
       -- it passes, and its counts are added or 19 is due
-      pub going_more : {B W R L' : List ℕ} {r : ℕ} → x.number ≡ 0 → Due (counts_of (den m'.cuts x.cut_root)) due L L' r → Kept k (lends m' B W R)
+      pub going_more : {B W R L' : List ℕ} {r : Option (Unit {0})} → x.number ≡ 0 → Due (counts_of (den m'.cuts x.cut_root)) so_far L L' r → Kept k (lends m' B W R)
           → Going bytes lengths l (lends m' B W R) (i + 1) (start + get_or lengths i 0) L' r
       going_more z b e =
           let (t, p, d) = analysed_passed y z in

@@ -1,14 +1,13 @@
 -- TWO OUTCOMES COINCIDE: what the contract of `folder` allows for some arguments is one answer, and one content of all that was lent. And what it tells of one tree, and of 19.
 -- Assumes nothing.
-use mathlib.Core.Path.{◌≡◌, refl, sym, ap, ap₂, ◌∙◌, subst}
-use mathlib.Core.Logic.{◌⊎◌, inl, inr, ◌↔◌}
+use mathlib.Core.Path.{◌≡◌, sym, ap, ◌∙◌, subst}
+use mathlib.Core.Logic.{◌⊎◌, inl, inr}
 use mathlib.Core.List.{List, [], ◌∷◌}
 use Prim.Native.Nat.{ℕ, ◌≤◌, ◌<◌}
 use native.Mathlib.Omega.{arith}
-use lib.ListN.{length, get_or, take}
+use lib.ListN.{length, get_or}
 use lib.Seq.{ext_get_or, take-length}
 use Rattle.paper.specs.Trees.{Tree}
-use Rattle.paper.specs.Answers.{Verdict}
 use Rattle.paper.specs.Sizes.{cuts_of_size, sizes}
 use Rattle.promises.proofs.Coincide.{same_zero}
 use Rattle.store.proofs.Denotes.{below_or_not}
@@ -16,7 +15,7 @@ use Rattle.folder.specs.Parts.{parts}
 use Rattle.folder.specs.Passing.{Passes, AllPass}
 use Rattle.folder.specs.Totals.{Above, Totals}
 use Rattle.folder.specs.Contract.{Lends, Answers, Cleared, Leaves, Gathers}
-use Rattle.folder.specs.declared.Gathered.{Gathered}
+use Rattle.folder.specs.Gathered.{Gathered}
 use Rattle.folder.proofs.Passing.{refusal_number, all_same, not_all, first_same}
 use Rattle.folder.proofs.Totals.{total_one, above_or_fits}
 

@@ -3,18 +3,18 @@
 use mathlib.Core.Path.{◌≡◌, refl, sym, ap, ◌∙◌, subst}
 use mathlib.Core.List.{List}
 use Prim.Native.Nat.{ℕ}
-use native.Mathlib.Decide.{ℕ_discrete}
 use native.Mathlib.Omega.{arith}
 use lib.ListN.{length, replicate}
+use Rattle.std.specs.Prelude.{Some, None}
 use Rattle.paper.specs.Limits.{limits}
 use Rattle.paper.specs.Answers.{Unwritten}
 use Rattle.memory.specs.Memory.{Memory, AllZero}
 use Rattle.memory.proofs.Before.{all_zero_from, zero_from}
 use Rattle.totals.specs.Adding.{Ends}
 use Rattle.totals.proofs.Unwritten.{unwritten_some, unwritten_few}
-use Rattle.folder.specs.Contract.{lent, Lends, lends, Right, Answers, Cleared, AtOnce, Leaves, Gathers}
+use Rattle.folder.specs.Contract.{lent, Lends, lends, Right, Cleared, AtOnce, Leaves, Gathers}
 use Rattle.folder.specs.Steps.{Tried}
-use Rattle.folder.specs.declared.Gathered.{Gathered}
+use Rattle.folder.specs.Gathered.{Gathered}
 use Rattle.folder.proofs.Passing.{refusal_number}
 use Rattle.folder.proofs.Going.{Kept}
 
@@ -39,6 +39,9 @@ own_zero z e = record { nodes = z.nodes; cuts = z.cuts; gates = z.gates; added =
 
 -- ---- the answer
 
+pub ends_same : {n m : ℕ} {C L C' : List ℕ} → n ≡ m → Ends n C L C' → Ends m C L C'
+ends_same {n} {m} {C} {L} {C'} = subst (λ k. Ends k C L C')
+
 module _ {bytes lengths : List ℕ} {l k : Lends} {C L : List ℕ} {a : Gathered} (f : Right bytes lengths l C) (t : Tried bytes lengths l k L a) where
   -- the first tree's own, before anything was written: nothing was changed
   pub at_once : own l ≡ l → AtOnce a.tree a.number → Gathers bytes lengths l C (own k) C a
@@ -48,10 +51,8 @@ module _ {bytes lengths : List ℕ} {l k : Lends} {C L : List ℕ} {a : Gathered
       go (Tried.refused i v r e u) =
           let q : AtOnce i v.number = (sym e.tree_is ∙ z, subst (λ x. Unwritten x) e.number_is n) in
           Gathers.refused i v f r e (Leaves.unchanged q (ap own (u q) ∙ o)) refl
-      go (Tried.passed ts due p b e) =
-          let (q, o) = b.over (λ x. unwritten_some a.number n (e.number_is ∙ x)) in
-          let is : a.number ≡ 19 = e.number_is ∙ q in
-          absurd (omega (arith, is, unwritten_few a.number n (omega (arith, is))))
+      go (Tried.passed ts (Some u) p b e) = absurd (unwritten_some a.number n e.number_is)
+      go (Tried.passed ts None p b e) = let is = e.number_is in absurd (omega (arith, is, unwritten_few a.number n (omega (arith, is))))
 
   -- otherwise all that was lent is zero, and the counts are written or stay
   pub ended : {l' : Lends} {C' : List ℕ} → Kept l k → Cleared k l' → (AtOnce a.tree a.number → ⊥) → Ends a.number C L C' → Gathers bytes lengths l C l' C' a
@@ -65,13 +66,7 @@ module _ {bytes lengths : List ℕ} {l k : Lends} {C L : List ℕ} {a : Gathered
           let (low, high) = refusal_number r.refused in
           let q = e.number_is in
           Gathers.refused i v f r e (Leaves.zeroed (λ (x, y). n (e.tree_is ∙ x, subst (λ k. Unwritten k) (sym q) y)) c) (w.refused (λ x. omega (arith, x, q, low)))
-      go (Tried.passed ts due p s e) = told (ℕ_discrete due 0)
-        where
-          told : Dec (due ≡ 0) → Gathers bytes lengths l C l' C' a
-          told (yes x) =
-              let v = w.done (e.number_is ∙ x) in
-              Gathers.done ts f p (s.fits x) (subst (λ y. Answers a y 0 0) x e) c
-              (record { long = v.long; totals = λ j m. v.at j m ∙ s.exact x j m; behind = v.behind })
-          told (no x) =
-              let (q, b) = s.over x in
-              Gathers.too_many ts f p b (subst (λ y. Answers a y 0 0) q e) c (w.refused (λ y. x (sym e.number_is ∙ y)))
+      go (Tried.passed ts (Some u) p s e) =
+          let v = w.done e.number_is in
+          Gathers.done ts f p (s.fits refl) e c (record { long = v.long; totals = λ j m. v.at j m ∙ s.exact refl j m; behind = v.behind })
+      go (Tried.passed ts None p s e) = Gathers.too_many ts f p (s.over refl) e c (w.refused (λ y. let q = e.number_is in omega (arith, y, q)))

@@ -3,7 +3,7 @@
 use mathlib.Core.Path.{◌≡◌, refl, sym, ap, ap₂, ◌∙◌, subst}
 use mathlib.Core.Logic.{◌≢◌, ◌⊎◌, inl, inr}
 use mathlib.Core.List.{List, [], ◌∷◌, ◌++◌}
-use Prim.Native.Nat.{ℕ, zero, suc, ◌+◌, ◌≤◌, ◌<◌}
+use Prim.Native.Nat.{ℕ, zero, suc, ◌≤◌, ◌<◌}
 use native.Mathlib.Omega.{arith}
 use lib.ListN.{length, get_or, take}
 use lib.Seq.{get_or-take, length-take-le}
@@ -11,12 +11,12 @@ use Rattle.paper.specs.Limits.{limits}
 use Rattle.paper.specs.Trees.{Tree}
 use Rattle.paper.specs.Answers.{Verdict, OfReading, Unwritten, NodesFull, FilledAt, CutsFull}
 use Rattle.algebra.proofs.Prefixes.{filled_full, filled_once}
-use Rattle.rules.specs.Answers.{verdict}
+use Rattle.rules.specs.Answers.{reason}
 use Rattle.records.specs.Judge.{Book, accept, outcome}
 use Rattle.records.specs.Trees.{tree_of}
 use Rattle.memory.specs.Memory.{Memory, Lengths, capacity}
 use Rattle.memory.specs.Outcome.{at, Done}
-use Rattle.memory.specs.declared.Analysis.{Analysis}
+use Rattle.memory.specs.Analysis.{Analysis}
 use Rattle.memory.proofs.Before.{SameLengths, lengths_from}
 use Rattle.analyser.specs.Analysed.{Analysed}
 use Rattle.promises.proofs.Contents.{other_way, filled_at, nodes_full_back, cuts_full, cuts_full_back}
@@ -91,7 +91,7 @@ module _ {m : Memory} {bytes : List ℕ} where
   pub refusal_number : {v : Verdict} → Refuses m bytes v → (1 ≤ v.number) × (v.number ≢ 19)
   refusal_number {v} (Refuses.bad_tree w e q) = go (refusal_range bytes w e)
     where
-      go : OfReading (verdict w).number → (1 ≤ v.number) × (v.number ≢ 19)
+      go : OfReading (reason w).number → (1 ≤ v.number) × (v.number ≢ 19)
       go (inl (l, h)) = let k = ap (λ x. x.number) q in (omega arith, λ z. omega arith)
       go (inr h) = let k = ap (λ x. x.number) q in (omega arith, λ z. omega arith)
   refusal_number (Refuses.bad_length b e n q) = let k = ap (λ x. x.number) q in (omega arith, λ z. omega arith)
@@ -99,7 +99,7 @@ module _ {m : Memory} {bytes : List ℕ} where
   refusal_number (Refuses.cuts_full b e l f g q) = let k = ap (λ x. x.number) q in (omega arith, λ z. omega arith)
 
   pub same_refusal : {v w : Verdict} → Refuses m bytes v → Refuses m bytes w → v ≡ w
-  same_refusal (Refuses.bad_tree w p e) (Refuses.bad_tree v q d) = e ∙ ap verdict (same_answer bytes q p) ∙ sym d
+  same_refusal (Refuses.bad_tree w p e) (Refuses.bad_tree v q d) = e ∙ ap reason (same_answer bytes q p) ∙ sym d
   same_refusal (Refuses.bad_tree w p e) (Refuses.bad_length b q n d) = absurd (not_both bytes p q)
   same_refusal (Refuses.bad_tree w p e) (Refuses.nodes_full b i q l f d) = absurd (not_both bytes p q)
   same_refusal (Refuses.bad_tree w p e) (Refuses.cuts_full b q l f g d) = absurd (not_both bytes p q)

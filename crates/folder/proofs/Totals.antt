@@ -3,9 +3,9 @@
 use mathlib.Core.Path.{◌≡◌, refl, sym, ap, ◌∙◌, subst}
 use mathlib.Core.List.{List, [], ◌∷◌, ◌++◌}
 use Prim.Native.Nat.{ℕ, ◌+◌, ◌≤◌, ◌<◌}
-use native.Mathlib.Decide.{ℕ_discrete}
 use native.Mathlib.Omega.{arith}
 use lib.ListN.{get_or, replicate, get_or-replicate}
+use Rattle.std.specs.Prelude.{Option, Some, None}
 use Rattle.paper.specs.Trees.{Tree}
 use Rattle.paper.specs.Sizes.{cuts_of_size, largest, sizes}
 use Rattle.totals.specs.Adding.{Due}
@@ -28,41 +28,38 @@ total_last k [] t = let a = total_one k t in let b = total_none k in omega (arit
 total_last k (u ∷ ts) t = let a = total_first k u (ts ++ (t ∷ [])) in let b = total_first k u ts in let c = total_last k ts t in omega (arith, a, b, c)
 
 -- no tree yet
-pub sums_none : {L : List ℕ} → L ≡ replicate sizes 0 → Sums [] L 0
+pub sums_none : {L : List ℕ} → L ≡ replicate sizes 0 → Sums [] L (Some tt)
 sums_none {L} z = record {
   fits = λ _. record { each = λ k l. let e = total_none k in omega (arith, e) };
   exact = λ _ k l. ap (λ x. get_or x k 0) z ∙ get_or-replicate sizes k 0 0 l ∙ sym (total_none k);
-  over = λ n. absurd (n refl);
+  over = λ n. cc;
 }
 
 -- one more tree
-module _ (t : Tree) {ts : List Tree} {L L' : List ℕ} {due r : ℕ} (g : Sums ts L due) (s : Due (cuts_of_size t) due L L' r) where
-  -- nothing is due behind it, so nothing was before it
-  none_before : r ≡ 0 → due ≡ 0
-  none_before z = go (ℕ_discrete due 0)
-    where
-      go : Dec (due ≡ 0) → due ≡ 0
-      go (yes e) = e
-      go (no n) = sym (s.stays n) ∙ z
+module _ (t : Tree) {ts : List Tree} {L L' : List ℕ} {before r : Option (Unit {0})} (g : Sums ts L before) (s : Due (cuts_of_size t) before L L' r) where
+  -- where all fits behind it, all did before it
+  fits_before : (b : Option (Unit {0})) → before ≡ b → r ≡ Some tt → before ≡ Some tt
+  fits_before (Some u) e z = e
+  fits_before None e z = let n = s.stays e in cc
 
-  is : due ≡ 0 → (k : ℕ) → k < sizes → get_or L k 0 + cuts_of_size t k ≡ total_of k (ts ++ (t ∷ []))
+  is : before ≡ Some tt → (k : ℕ) → k < sizes → get_or L k 0 + cuts_of_size t k ≡ total_of k (ts ++ (t ∷ []))
   is e k l = ap (λ x. x + cuts_of_size t k) (g.exact e k l) ∙ sym (total_last k ts t)
 
-  above : (r ≡ 0 → ⊥) → Dec (due ≡ 0) → (r ≡ 19) × Above (ts ++ (t ∷ []))
-  above n (yes e) =
-      let (q, b) = s.over e n in
-      (q, record { size = b.size; within = b.within; large = subst (λ x. largest < x) (is e b.size b.within) b.large })
-  above n (no m) =
-      let (q, b) = g.over m in
+  above : (b : Option (Unit {0})) → before ≡ b → r ≡ None → Above (ts ++ (t ∷ []))
+  above (Some u) e n =
+      let b = s.over e n in
+      record { size = b.size; within = b.within; large = subst (λ x. largest < x) (is e b.size b.within) b.large }
+  above None e n =
+      let b = g.over e in
       let h = b.large in
       let c = total_last b.size ts t in
-      (s.stays m ∙ q, record { size = b.size; within = b.within; large = omega (arith, h, c) })
+      record { size = b.size; within = b.within; large = omega (arith, h, c) }
 
   pub sums_more : Sums (ts ++ (t ∷ [])) L' r
   sums_more = record {
-    fits = λ z. let e = none_before z in record { each = λ k l. subst (λ x. x ≤ largest) (is e k l) ((s.fits e z).small k l) };
-    exact = λ z k l. let e = none_before z in (s.fits e z).below k l ∙ is e k l;
-    over = λ n. above n (ℕ_discrete due 0);
+    fits = λ z. let e = fits_before before refl z in record { each = λ k l. subst (λ x. x ≤ largest) (is e k l) ((s.fits e z).small k l) };
+    exact = λ z k l. let e = fits_before before refl z in (s.fits e z).below k l ∙ is e k l;
+    over = λ n. above before refl n;
   }
 
 -- the two do not meet

@@ -9,7 +9,7 @@ use Rattle.totals.specs.Fitting.{Fitting}
 use Rattle.folder.specs.Parts.{parts}
 use Rattle.folder.specs.Passing.{AllPass, FirstRefused}
 use Rattle.folder.specs.Totals.{Above, Fits, Totals}
-use Rattle.folder.specs.declared.Gathered.{Gathered}
+use Rattle.folder.specs.Gathered.{Gathered}
 
 -- what an analysis is lent in a folder: the lists that the folder is lent, and a list of its own for what each gate adds, long enough for any tree and zero
 abbrev pub lent : (nodes cuts gates memo heads next marks own : List ℕ) → Memory

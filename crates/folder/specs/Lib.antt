@@ -2,5 +2,6 @@
 pub mod Parts
 pub mod Passing
 pub mod Totals
+pub mod Gathered
 pub mod Contract
 pub mod Steps

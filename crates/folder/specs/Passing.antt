@@ -4,10 +4,10 @@ use Rattle.std.specs.Prelude.{◌≡◌, List, [], ◌∷◌, ℕ, ◌<◌, leng
 use Rattle.paper.specs.Limits.{limits}
 use Rattle.paper.specs.Trees.{Tree}
 use Rattle.paper.specs.Answers.{Verdict, NodesFull, FilledAt, CutsFull}
-use Rattle.rules.specs.Answers.{verdict}
+use Rattle.rules.specs.Answers.{reason}
 use Rattle.records.specs.Judge.{Book, accept, refuse, outcome}
 use Rattle.records.specs.Trees.{tree_of}
-use Rattle.rules.specs.declared.Answer.{Answer}
+use Rattle.rules.specs.declared.Refusal.{Refusal}
 use Rattle.memory.specs.Memory.{Memory, Lengths, capacity}
 use Rattle.memory.specs.Outcome.{at}
 
@@ -22,7 +22,7 @@ pub record Passes (m : Memory) (bytes : List ℕ) (t : Tree) : Type 0 where
 
 -- the tree is refused with this number and place: 1 to 8 or 21, then 9, then 10, then 11
 pub data Refuses (m : Memory) (bytes : List ℕ) (v : Verdict) : Type 0 where
-  bad_tree : (w : Answer) → outcome limits bytes ≡ refuse w → v ≡ verdict w → Refuses m bytes v
+  bad_tree : (w : Refusal) → outcome limits bytes ≡ refuse w → v ≡ reason w → Refuses m bytes v
   bad_length : (b : Book) → outcome limits bytes ≡ accept b → (Lengths (length (tree_of b).gates) m → ⊥) → v ≡ at 9 0 → Refuses m bytes v
   nodes_full : (b : Book) (g : ℕ) → outcome limits bytes ≡ accept b → Lengths (length (tree_of b).gates) m → FilledAt (tree_of b) (capacity m.nodes) g → v ≡ at 10 g → Refuses m bytes v
   cuts_full : (b : Book) → outcome limits bytes ≡ accept b → Lengths (length (tree_of b).gates) m → (NodesFull (tree_of b) (capacity m.nodes) → ⊥)

@@ -5,26 +5,29 @@ ghost use Rattle.std.specs.Prelude.{◌≡◌, [], length};
 ghost use Rattle.paper.specs.Lists.{sum};
 ghost use Rattle.paper.specs.Sizes.{sizes};
 ghost use Rattle.memory.specs.Memory.{memory};
+ghost use Rattle.tables.specs.Flags.{Says};
 ghost use Rattle.totals.specs.Adding.{Areas};
-ghost use Rattle.folder.specs.Contract.{lent, lends, Answers, Gathers};
+ghost use Rattle.folder.specs.Contract.{lent, lends, AtOnce, Gathers};
+ghost use Rattle.folder.specs.Gathered.{gathered_of};
 ghost use Rattle.folder.specs.Steps.{Sums, Tried};
 
+use paper::refusal::Refusal;
 use totals::{add_tree, at_once, clear_areas, is_fitting, write_done};
 
-// What a folder answers: its number and place, and the index of the tree that is refused.
-#[derive(Clone, Copy)]
-pub struct Gathered {
-    pub number: u8,
+// Why a folder is refused, and the index of the tree; place and tree are 0 where it is no tree's own.
+#[derive(Clone, Copy, Debug, PartialEq, Eq)]
+pub struct RefusedTree {
+    pub why: Refusal,
     pub place: usize,
     pub tree: usize,
 }
 
-// An answer that names no tree.
-fn answer(number: u8) -> Gathered
-    ensures { Answers result number 0 0 }
+// A refusal that names no tree.
+fn of_no_tree(why: Refusal) -> RefusedTree
+    ensures { (result.why ≡ why) × (result.place ≡ 0) × (result.tree ≡ 0) }
 {
-    Gathered {
-        number,
+    RefusedTree {
+        why,
         place: 0,
         tree: 0,
     }
@@ -47,16 +50,15 @@ fn all_trees(
     less: &mut [u64],
     work: &mut [u64],
     reached: &mut [u64],
-) -> Gathered
-    requires { (sum lengths.now ≡ length bytes.now) × (Areas cuts.old less.old work.old reached.old) × (length totals.old ≡ sizes) × (Sums [] totals.old 0) }
-    ensures { Tried bytes.now lengths.now (lends (memory nodes.old cuts.old gates.old added.old memo.old heads.old next.old marks.old own.old) less.old work.old reached.old) (lends (memory nodes.new cuts.new gates.new added.new memo.new heads.new next.new marks.new own.new) less.new work.new reached.new) totals.new result }
+) -> Result<(), RefusedTree>
+    requires { (sum lengths.now ≡ length bytes.now) × (Areas cuts.old less.old work.old reached.old) × (length totals.old ≡ sizes) × (Sums [] totals.old (Some tt)) }
+    ensures { Tried bytes.now lengths.now (lends (memory nodes.old cuts.old gates.old added.old memo.old heads.old next.old marks.old own.old) less.old work.old reached.old) (lends (memory nodes.new cuts.new gates.new added.new memo.new heads.new next.new marks.new own.new) less.new work.new reached.new) totals.new (gathered_of result) }
 {
-    let mut i = 0;
     let mut start = 0;
-    let mut due = 0;
-    while i < lengths.len() {
-        let end = start + lengths[i];
-        let a = analyser::analyse(
+    let mut fits = Some(());
+    for (i, length) in lengths.iter().enumerate() {
+        let end = start + *length;
+        let t = match analyser::analyse(
             &bytes[start..end],
             nodes,
             cuts,
@@ -67,29 +69,39 @@ fn all_trees(
             next,
             marks,
             own,
-        );
-        let number = a.number;
-        if number != 0 {
-            return Gathered {
-                number,
-                place: a.place,
-                tree: i,
-            };
-        }
-        due = add_tree(
-            due,
+        ) {
+            Ok(t) => t,
+            Err(refused) => {
+                return Err(RefusedTree {
+                    why: refused.why,
+                    place: refused.place,
+                    tree: i,
+                });
+            }
+        };
+        fits = add_tree(
+            fits,
             cuts,
-            a.cut_nodes,
-            a.cut_root,
+            t.cut_nodes,
+            t.cut_root,
             totals,
             less,
             work,
             reached,
         );
         start = end;
-        i += 1;
     }
-    answer(due)
+    fits.ok_or(of_no_tree(Refusal::TooMany))
+}
+
+// Whether the first tree was refused before anything was written.
+fn is_unchanged(r: Result<(), RefusedTree>) -> bool
+    ensures { Says result (AtOnce (gathered_of r).tree (gathered_of r).number) }
+{
+    match r {
+        Ok(()) => false,
+        Err(refused) => at_once(refused.why, refused.tree),
+    }
 }
 
 // Counts the minimal cuts of all trees of a folder by size: tree i has lengths[i] bytes, behind those of the trees before it. What each gate adds is
@@ -109,15 +121,15 @@ pub fn folder(
     less: &mut [u64],
     work: &mut [u64],
     reached: &mut [u64],
-) -> Gathered
-    ensures { Gathers bytes.now lengths.now (lends (lent nodes.old cuts.old gates.old memo.old heads.old next.old marks.old own.old) less.old work.old reached.old) counts.old (lends (lent nodes.new cuts.new gates.new memo.new heads.new next.new marks.new own.new) less.new work.new reached.new) counts.new result }
+) -> Result<(), RefusedTree>
+    ensures { Gathers bytes.now lengths.now (lends (lent nodes.old cuts.old gates.old memo.old heads.old next.old marks.old own.old) less.old work.old reached.old) counts.old (lends (lent nodes.new cuts.new gates.new memo.new heads.new next.new marks.new own.new) less.new work.new reached.new) counts.new (gathered_of result) }
 {
     if !is_fitting(bytes, lengths, cuts, counts, less, work, reached) {
-        return answer(9);
+        return Err(of_no_tree(Refusal::Length));
     }
     let mut totals = [0; paper::SIZES];
     let mut added = [0; paper::GATES];
-    let a = all_trees(
+    let r = all_trees(
         bytes,
         lengths,
         &mut totals,
@@ -134,13 +146,13 @@ pub fn folder(
         work,
         reached,
     );
-    if at_once(a.number, a.tree) {
-        return a;
+    if is_unchanged(r) {
+        return r;
     }
     memory::wipe(
         nodes, cuts, gates, &mut added, memo, heads, next, marks, own,
     );
     clear_areas(less, work, reached);
-    write_done(a.number, &totals, counts);
-    a
+    write_done(r.map_err(|refused| refused.why), &totals, counts);
+    r
 }

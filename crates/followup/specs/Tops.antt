@@ -8,7 +8,7 @@ use Rattle.tables.specs.Lent.{Lent}
 use Rattle.records.specs.declared.Tree.{Tree}
 use Rattle.arrays.specs.Chances.{chances_of}
 use Rattle.bracket.specs.Bracketed.{chance_in, Chances}
-use Rattle.memory.specs.declared.Analysis.{Analysis}
+use Rattle.memory.specs.Analysis.{Analysis}
 
 -- a tree's node table, its events' chances none above D
 pub record Priced (t : Tree) (T : List ℕ) (c root : ℕ) : Type 0 where

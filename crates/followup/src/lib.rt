@@ -25,9 +25,12 @@ pub fn next_room(
     requires lent { Lent true events cuts.now count root }
     requires good_start { GoodStart events begin s }
     requires longest_in_bounds { longest ≤ length room.old }
-    ensures { Next events (den cuts.now root) begin s room.new result.number result.place result.count result.used result.last result.finished }
+    ensures { Next events (den cuts.now root) begin s room.new 0 0 result.count result.used result.last result.finished }
 {
-    analyser::list(cuts, events, count, root, begin, s, room)
+    let Ok(listed) = analyser::list(cuts, events, count, root, begin, s, room) else {
+        unreachable!()
+    };
+    listed
 }
 
 // Encloses the chance of a tree's root.
@@ -41,10 +44,13 @@ pub fn top(
 ) -> Ends
     requires priced { Priced tree nodes.now count root }
     requires nodes_in_bounds { (length nodes.now / 3 ≤ length lows.old) × (length nodes.now / 3 ≤ length highs.old) }
-    ensures { Topped tree nodes.now root result.number result.place result.low result.high }
+    ensures { Topped tree nodes.now root 0 0 result.low result.high }
 {
     let events = tree.event_count;
     let all = tree.events;
     let chances = arrays::chances_of(all);
-    analyser::bracket(nodes, events, count, root, &chances, lows, highs)
+    let Ok(ends) = analyser::bracket(nodes, events, count, root, &chances, lows, highs) else {
+        unreachable!()
+    };
+    ends
 }

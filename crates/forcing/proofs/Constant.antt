@@ -8,7 +8,7 @@ use native.Mathlib.Omega.{arith}
 use Rattle.paper.specs.Sets.{none}
 use Rattle.paper.specs.Functions.{depends_on}
 use Rattle.paper.specs.Trees.{const_f}
-use Rattle.paper.specs.Diagrams.{Diagram, leaf}
+use Rattle.paper.specs.Diagrams.{leaf}
 use Rattle.paper.specs.Cuts.{cut_nodes_needed, cut_list}
 use Rattle.paper.specs.Chance.{standing}
 use Rattle.algebra.specs.Operations.{node_count}

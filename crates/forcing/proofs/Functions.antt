@@ -14,7 +14,7 @@ use Rattle.paper.specs.Store.{State, free, failed, sound, Settings}
 use Rattle.paper.specs.Forcing.{settle, force_f, event_as, force_input, force_gate}
 use Rattle.algebra.proofs.Lists.{map_append}
 use Rattle.algebra.proofs.Rules.{values_rule}
-use Rattle.records.specs.Trees.{InputsLower, GateLower, TreeLower}
+use Rattle.records.specs.Trees.{GateLower, TreeLower}
 use Rattle.forcing.proofs.Inputs.{distinct_forced}
 
 module _ (s : Settings) where

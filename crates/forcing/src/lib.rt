@@ -32,10 +32,8 @@ fn force_inputs(inputs: &mut [u16], states: &[u8])
     requires { length states.now ≡ limits.events }
     ensures { inputs.new ≡ map (force_code (states_in states.now)) inputs.old }
 {
-    let mut i = 0;
-    while i < inputs.len() {
-        inputs[i] = forced_code(inputs[i], states);
-        i += 1;
+    for input in inputs.iter_mut() {
+        *input = forced_code(*input, states);
     }
 }
 
@@ -46,18 +44,5 @@ pub fn force_tree(tree: Tree, states: &[u8]) -> Tree
 {
     let mut inputs = tree.inputs;
     force_inputs(&mut inputs, states);
-    let events = tree.events;
-    let kinds = tree.kinds;
-    let leasts = tree.leasts;
-    let sizes = tree.sizes;
-    Tree {
-        events,
-        event_count: tree.event_count,
-        sited: tree.sited,
-        kinds,
-        leasts,
-        sizes,
-        gate_count: tree.gate_count,
-        inputs,
-    }
+    Tree { inputs, ..tree }
 }

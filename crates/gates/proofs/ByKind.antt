@@ -8,7 +8,6 @@ use native.Mathlib.Omega.{arith}
 use lib.Dec.{eqb}
 use lib.ListN.{length, get_or, take}
 use lib.Seq.{get_or-take, length-take-le}
-use Rattle.paper.specs.Lists.{In}
 use Rattle.paper.specs.Trees.{Input, event, gate, forced, Gate, and_g, or_g, least_g, distinct_inputs}
 use Rattle.paper.specs.Flat.{input_of, gate_of}
 use Rattle.paper.specs.Diagrams.{Diagram, leaf}
@@ -16,7 +15,8 @@ use Rattle.algebra.proofs.Lists.{in_left}
 use Rattle.tables.specs.Table.{den}
 use Rattle.store.specs.Building.{PartOf, Found, Stops}
 use Rattle.store.specs.declared.Built.{Built}
-use Rattle.store.specs.declared.Built.TheVariants.{Done, Short}
+use Rattle.store.specs.declared.Full.{Full}
+use Rattle.std.specs.Prelude.{Result, Ok, Err}
 use Rattle.store.proofs.Building.{stops_more}
 use Rattle.store.proofs.Memory.{memo_map}
 use Rattle.joins.proofs.Recursion.{right_grown}
@@ -48,7 +48,7 @@ module _ (gs : List Diagram) (kind k : ℕ) (is : List Input) where
       go false false = refl
 
   -- A GATE over the inputs that count
-  pub gains_counted : (T : List ℕ) (c : ℕ) (T' H' X' M' : List ℕ) (r : Built) (js : List Input) → js ≡ counted kind is
+  pub gains_counted : (T : List ℕ) (c : ℕ) (T' H' X' M' : List ℕ) (r : Result Built Full) (js : List Input) → js ≡ counted kind is
       → Gains (over_steps_d gs kind k js) (over_d gs kind k js) T c T' H' X' M' r → Gains (steps_d gs (gate_of kind k is)) (value_d gs (gate_of kind k is)) T c T' H' X' M' r
   gains_counted T c T' H' X' M' r js e g =
       subst₂ (λ ds D. Gains ds D T c T' H' X' M' r) (ap (over_steps_d gs kind k) e ∙ sym steps_kind) (ap (over_d gs kind k) e ∙ sym value_kind) g
@@ -114,14 +114,14 @@ module _ {T H X M : List ℕ} {c : ℕ} (G own : List ℕ) (h : Held T H X M c) 
   is_row = row_map (row_long ∙ sym long) row
 
   module _ (kind k : ℕ) where
-    pub gate_gains : (T₂ H₂ X₂ M₂ : List ℕ) (r : Built)
+    pub gate_gains : (T₂ H₂ X₂ M₂ : List ℕ) (r : Result Built Full)
         → Gains (kind_steps_d kind k (map (den T₁) (take (length own) R))) (kind_d kind k (map (den T₁) (take (length own) R))) T₁ c₁ T₂ H₂ X₂ M₂ r
         → Gains (over_steps_d gs kind k is) (over_d gs kind k is) T c T₂ H₂ X₂ M₂ r
     gate_gains T₂ H₂ X₂ M₂ r g = go r (subst (λ ds. Gains (kind_steps_d kind k ds) (kind_d kind k ds) T₁ c₁ T₂ H₂ X₂ M₂ r) is_row g)
       where
-        go : (r : Built) → Gains (kind_steps_d kind k (map (input_d gs) is)) (over_d gs kind k is) T₁ c₁ T₂ H₂ X₂ M₂ r → Gains (over_steps_d gs kind k is) (over_d gs kind k is) T c T₂ H₂ X₂ M₂ r
-        go (Done r c₂) g = record { made = made_seq (kind_steps_d kind k (map (input_d gs) is)) a.made g.made; held = g.held; found = g.found }
-        go (Short c₂) g = made_stops (kind_steps_d kind k (map (input_d gs) is)) a.made g
+        go : (r : Result Built Full) → Gains (kind_steps_d kind k (map (input_d gs) is)) (over_d gs kind k is) T₁ c₁ T₂ H₂ X₂ M₂ r → Gains (over_steps_d gs kind k is) (over_d gs kind k is) T c T₂ H₂ X₂ M₂ r
+        go (Ok r) g = record { made = made_seq (kind_steps_d kind k (map (input_d gs) is)) a.made g.made; held = g.held; found = g.found }
+        go (Err x) g = made_stops (kind_steps_d kind k (map (input_d gs) is)) a.made g
 
 -- an event of its inputs does not fit
 pub gate_short : (gs : List Diagram) (kind k : ℕ) (is : List Input) {T : List ℕ} {c : ℕ} {T₁ H₁ X₁ : List ℕ} {c₁ : ℕ}

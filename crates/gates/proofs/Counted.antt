@@ -1,18 +1,16 @@
 -- The inputs of a gate that count.
 -- Assumes nothing.
-use mathlib.Core.Path.{◌≡◌, refl, sym, ap, ◌∙◌, subst}
+use mathlib.Core.Path.{◌≡◌, sym, ap, ◌∙◌, subst}
 use mathlib.Core.Logic.{◌≢◌}
 use mathlib.Core.List.{List, map}
-use Prim.Native.Nat.{ℕ, ◌+◌, ◌≤◌, ◌<◌}
+use Prim.Native.Nat.{ℕ, ◌+◌, ◌<◌}
 use native.Mathlib.Omega.{arith}
 use lib.Dec.{eqb}
 use lib.ListN.{length, take}
-use lib.Seq.{length-take-le}
 use borrow.Author.Tests.{eq-eqb, ne_eqb}
-use Rattle.paper.specs.Limits.{limits}
 use Rattle.paper.specs.Trees.{Input}
 use Rattle.paper.specs.Flat.{gates_from, failed_from, input_of}
-use Rattle.twins.specs.Distinct.{distinct_codes, Distinct}
+use Rattle.twins.specs.Distinct.{Distinct}
 use Rattle.twins.proofs.Firsts.{firsts_length, firsts_some, firsts_places}
 use Rattle.twins.proofs.Inputs.{distinct_inputs_lem}
 use Rattle.gates.specs.Rules.{counted}
@@ -30,12 +28,6 @@ module _ {own out : List ℕ} {n : ℕ} (d : Distinct own out n) where
   distinct_of_least {kind} a b = rw (ne_eqb kind 2 a, ne_eqb kind 3 b) (ap (map input_of) d.front ∙ sym (distinct_inputs_lem own))
 
   module _ {G : List ℕ} (w : Own G own) where
-    pub found_fits : n ≤ length out
-    found_fits = let c = d.count in let f = firsts_length eqb own in let l = w.few in let o = d.long in omega arith
-
-    pub found_long : n ≡ length (take n out)
-    found_long = sym (length-take-le n out found_fits)
-
     -- and keeps the rules of a gate's inputs
     pub found_own : Own G (take n out)
     found_own = subst (Own G) (sym d.front) (record {

@@ -4,6 +4,7 @@ use mathlib.Core.Path.{◌≡◌, refl, sym, ap, ap₂, ◌∙◌, subst}
 use mathlib.Core.Logic.{◌⊎◌, inl, inr}
 use mathlib.Core.Bool.{Bool, true, false, true≢false}
 use mathlib.Core.List.{List, [], ◌∷◌, ◌++◌, map}
+use Rattle.std.specs.Prelude.{Result, Ok, Err}
 use Prim.Native.Nat.{ℕ, zero, suc, ◌+◌, ◌-◌, ◌≤◌, ◌<◌}
 use native.Mathlib.Omega.{arith}
 use native.Mathlib.Numerals.{add-one}
@@ -22,10 +23,9 @@ use Rattle.tables.specs.Table.{den}
 use Rattle.tables.proofs.Den.{den_0, den_1}
 use Rattle.store.specs.Store.{Store}
 use Rattle.store.specs.Building.{Is, PartOf, Found, Stops, Builds, Tidy}
-use Rattle.store.specs.Placing.{Puts, built_of}
-use Rattle.store.specs.declared.Placed.{Placed}
+use Rattle.store.specs.Placing.{Puts}
 use Rattle.store.specs.declared.Built.{Built}
-use Rattle.store.specs.declared.Built.TheVariants.{Done, Short}
+use Rattle.store.specs.declared.Full.{Full}
 use Rattle.store.proofs.Denotes.{below_or_not}
 use Rattle.algebra.proofs.Subs.{part_reduced}
 use Rattle.store.proofs.Building.{makes_more, stops_more, is_part, tidy_step, placed_built}
@@ -37,18 +37,18 @@ use Rattle.gates.specs.Rows.{Named, Names, Lined}
 -- ---- one input
 
 -- the triple of an event
-pub event_made : (e : ℕ) {T H X : List ℕ} {c : ℕ} → Store T H X c → (T' H' X' : List ℕ) (p : Placed) → Puts T H X c (node e (den T 1) (den T 0)) T' H' X' p
-    → {r : Built} → r ≡ built_of c p → Builds (Is (event_d e)) T c (event_d e) T' H' X' r
-event_made e {T} {H} {X} {c} s T' H' X' p w {r} q = subst (λ d. Builds (Is d) T c d T' H' X' r) (ap₂ (node e) (den_1 T) (den_0 T)) (placed_built s (node e (den T 1) (den T 0)) refl T' H' X' p w q)
+pub event_made : (e : ℕ) {T H X : List ℕ} {c : ℕ} → Store T H X c → (T' H' X' : List ℕ) (r : Result Built Full) → Puts T H X c (node e (den T 1) (den T 0)) T' H' X' r
+    → Builds (Is (event_d e)) T c (event_d e) T' H' X' r
+event_made e {T} {H} {X} {c} s T' H' X' r w = subst (λ d. Builds (Is d) T c d T' H' X' r) (ap₂ (node e) (den_1 T) (den_0 T)) (placed_built s (node e (den T 1) (den T 0)) refl T' H' X' r w)
 
 -- an event's node is made
-pub names_event : (gs : List Diagram) (code : ℕ) (T : List ℕ) (c : ℕ) (T' H' X' : List ℕ) (r : Built) → code < gates_from
+pub names_event : (gs : List Diagram) (code : ℕ) (T : List ℕ) (c : ℕ) (T' H' X' : List ℕ) (r : Result Built Full) → code < gates_from
     → Builds (Is (event_d code)) T c (event_d code) T' H' X' r → Names (input_of code ∷ []) (input_d gs (input_of code)) T c T' H' X' r
 names_event gs code T c T' H' X' r h b = subst (λ i. Names (i ∷ []) (input_d gs i) T c T' H' X' r) (sym (is_event_lem code h)) (go r b)
   where
-    go : (r : Built) → Builds (Is (event_d code)) T c (event_d code) T' H' X' r → Names (event code ∷ []) (event_d code) T c T' H' X' r
-    go (Done r c') b = record { made = made_one (makes_more is_part b); found = b.found }
-    go (Short c') b = stops_one (stops_more is_part b)
+    go : (r : Result Built Full) → Builds (Is (event_d code)) T c (event_d code) T' H' X' r → Names (event code ∷ []) (event_d code) T c T' H' X' r
+    go (Ok r) b = record { made = made_one (makes_more is_part b); found = b.found }
+    go (Err x) b = stops_one (stops_more is_part b)
 
 -- a gate's node stands in the list
 pub names_gate : {T H X G : List ℕ} {c code : ℕ} → Store T H X c → Within c G → gates_from ≤ code → code < failed_from → code < gates_from + length G

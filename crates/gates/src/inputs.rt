@@ -10,17 +10,21 @@ ghost use Rattle.atleast.specs.Making.{Within};
 ghost use Rattle.gates.specs.Rules.{input_d};
 ghost use Rattle.gates.specs.Rows.{Own, Names, Lines};
 
-use atleast::Count;
 use paper::{FAILED_FROM, GATES_FROM, INPUTS, SOUND_FROM};
-use store::Built;
+use store::{Built, Full};
 
 // An event is the node (event, 1, 0).
-fn event_node(nodes: &mut [u32], heads: &mut [u32], next: &mut [u32], count: usize, e: u32) -> Built
+fn event_node(
+    nodes: &mut [u32],
+    heads: &mut [u32],
+    next: &mut [u32],
+    count: usize,
+    e: u32,
+) -> Result<Built, Full>
     requires { Store nodes.old heads.old next.old count }
     ensures { Builds (Is (event_d e)) nodes.old count (event_d e) nodes.new heads.new next.new result }
 {
-    let placed = store::find_or_add(nodes, heads, next, count, e, 1, 0);
-    store::as_built(placed, count)
+    store::find_or_add(nodes, heads, next, count, e, 1, 0)
 }
 
 fn input_node(
@@ -30,7 +34,7 @@ fn input_node(
     gates: &[u32],
     count: usize,
     code: u16,
-) -> Built
+) -> Result<Built, Full>
     requires store { Store nodes.old heads.old next.old count }
     requires within { Within count gates.now }
     requires code_bound { code < failed_from → code < gates_from + length gates.now }
@@ -41,12 +45,15 @@ fn input_node(
     }
     if code < FAILED_FROM {
         let g = (code - GATES_FROM) as usize;
-        return Built::Done(gates[g], count);
+        return Ok(Built {
+            node: gates[g],
+            count,
+        });
     }
     if code < SOUND_FROM {
-        return Built::Done(1, count);
+        return Ok(Built { node: 1, count });
     }
-    Built::Done(0, count)
+    Ok(Built { node: 0, count })
 }
 
 // The nodes of all inputs of a gate, from the front of the row on.
@@ -58,7 +65,7 @@ pub fn input_nodes(
     inputs: &[u16],
     row: &mut [u32; INPUTS],
     count: usize,
-) -> Count
+) -> Result<usize, Full>
     requires store { Store nodes.old heads.old next.old count }
     requires within { Within count gates.now }
     requires own { Own gates.now inputs.now }
@@ -66,16 +73,10 @@ pub fn input_nodes(
     ensures { Lines (map (den nodes.old) gates.now) (map input_of inputs.now) nodes.old count nodes.new heads.new next.new row.new result }
 {
     let mut used = count;
-    let mut i = 0;
-    while i < inputs.len() {
-        match input_node(nodes, heads, next, gates, used, inputs[i]) {
-            Built::Done(node, to) => {
-                row[i] = node;
-                used = to;
-            }
-            Built::Short(to) => return Count::Full(to),
-        }
-        i += 1;
+    for (i, code) in inputs.iter().enumerate() {
+        let b = input_node(nodes, heads, next, gates, used, *code)?;
+        row[i] = b.node;
+        used = b.count;
     }
-    Count::To(used)
+    Ok(used)
 }

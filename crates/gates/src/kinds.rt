@@ -8,7 +8,7 @@ ghost use Rattle.gates.specs.Kinds.{join_all_d, join_steps_d, kind_d, kind_steps
 
 use atleast::at_least;
 use joins::join;
-use store::Built;
+use store::{Built, Full};
 
 // Kinds of gates; any other is at-least.
 pub const AND: u8 = 2;
@@ -24,27 +24,18 @@ fn joined(
     xs: &[u32],
     count: usize,
     z: u32,
-) -> Built
+) -> Result<Built, Full>
     requires held { Held nodes.old heads.old next.old memo.old count }
     requires within { Within count xs.now }
     requires in_bounds { 1 ≤ length xs.now }
     requires z_bound { z < 2 }
     ensures { Gains (join_steps_d (bit z) (map (den nodes.old) xs.now)) (join_all_d (bit z) (map (den nodes.old) xs.now)) nodes.old count nodes.new heads.new next.new memo.new result }
 {
-    let mut r = xs[0];
-    let mut used = count;
-    let mut i = 1;
-    while i < xs.len() {
-        match join(nodes, heads, next, memo, used, z, r, xs[i]) {
-            Built::Done(node, to) => {
-                r = node;
-                used = to;
-            }
-            Built::Short(to) => return Built::Short(to),
-        }
-        i += 1;
+    let mut b = Built { node: xs[0], count };
+    for i in 1..xs.len() {
+        b = join(nodes, heads, next, memo, b.count, z, b.node, xs[i])?;
     }
-    Built::Done(r, used)
+    Ok(b)
 }
 
 // The node of a gate over the nodes xs of its inputs.
@@ -57,7 +48,7 @@ pub fn combined(
     count: usize,
     kind: u8,
     k: u8,
-) -> Built
+) -> Result<Built, Full>
     requires held { Held nodes.old heads.old next.old memo.old count }
     requires within { Within count xs.now }
     requires in_bounds { 1 ≤ length xs.now }

@@ -12,11 +12,10 @@ ghost use Rattle.atleast.specs.Making.{Within, Held, Gains};
 ghost use Rattle.gates.specs.Rules.{over_d, over_steps_d, value_d, steps_d};
 ghost use Rattle.gates.specs.Rows.{Own};
 
-use atleast::Count;
 use inputs::input_nodes;
 use kinds::{AND, OR, combined};
 use paper::INPUTS;
-use store::Built;
+use store::{Built, Full};
 use twins::distinct;
 
 // The node of a gate over the inputs that count; `gates` has the nodes of the gates before.
@@ -30,7 +29,7 @@ fn gate_over(
     count: usize,
     kind: u8,
     k: u8,
-) -> Built
+) -> Result<Built, Full>
     requires held { Held nodes.old heads.old next.old memo.old count }
     requires within { Within count gates.now }
     requires own { Own gates.now inputs.now }
@@ -38,13 +37,9 @@ fn gate_over(
     ensures { Gains (over_steps_d (map (den nodes.old) gates.now) kind k (map input_of inputs.now)) (over_d (map (den nodes.old) gates.now) kind k (map input_of inputs.now)) nodes.old count nodes.new heads.new next.new memo.new result }
 {
     let mut row = [0u32; INPUTS];
-    match input_nodes(nodes, heads, next, gates, inputs, &mut row, count) {
-        Count::To(used) => {
-            let n = inputs.len();
-            combined(nodes, heads, next, memo, &row[..n], used, kind, k)
-        }
-        Count::Full(used) => Built::Short(used),
-    }
+    let used = input_nodes(nodes, heads, next, gates, inputs, &mut row, count)?;
+    let n = inputs.len();
+    combined(nodes, heads, next, memo, &row[..n], used, kind, k)
 }
 
 // The node of a gate with these inputs: all of an and or an or count, and of an at-least gate the distinct ones.
@@ -58,17 +53,14 @@ pub fn gate_node(
     count: usize,
     kind: u8,
     k: u8,
-) -> Built
+) -> Result<Built, Full>
     requires held { Held nodes.old heads.old next.old memo.old count }
     requires within { Within count gates.now }
     requires own { Own gates.now inputs.now }
     requires k_le_inputs { k ≤ limits.inputs }
     ensures { Gains (steps_d (map (den nodes.old) gates.now) (gate_of kind k (map input_of inputs.now))) (value_d (map (den nodes.old) gates.now) (gate_of kind k (map input_of inputs.now))) nodes.old count nodes.new heads.new next.new memo.new result }
 {
-    if kind == AND {
-        return gate_over(nodes, heads, next, memo, gates, inputs, count, kind, k);
-    }
-    if kind == OR {
+    if kind == AND || kind == OR {
         return gate_over(nodes, heads, next, memo, gates, inputs, count, kind, k);
     }
     let mut own = [0u16; INPUTS];

@@ -2,7 +2,7 @@
 -- ranking ranks and is the only one.
 -- Assumes nothing.
 use mathlib.Core.Path.{◌≡◌, refl, sym, ap, ap₂, ◌∙◌, subst, subst₂}
-use mathlib.Core.Bool.{true, false, cond}
+use mathlib.Core.Bool.{true, false}
 use mathlib.Core.List.{List, map}
 use Prim.Native.Nat.{ℕ, zero, suc, ◌+◌, ◌-◌, ◌≤◌, ◌<◌}
 use native.Mathlib.Omega.{arith}
@@ -13,7 +13,7 @@ use Rattle.paper.specs.Lists.{up_to}
 use Rattle.paper.specs.Functions.{fix_f, depends_on, Monotone}
 use Rattle.paper.specs.Diagrams.{Diagram, eval, Ordered}
 use Rattle.paper.specs.Chance.{total, low, high, stands, standing}
-use Rattle.paper.specs.Importance.{importance_low, importance_high, certain, low_of, high_of, Encloses, Ranks, ranking}
+use Rattle.paper.specs.Importance.{importance_low, importance_high, low_of, high_of, Encloses, Ranks, ranking}
 use Rattle.algebra.proofs.Without.{Fit}
 use Rattle.algebra.proofs.Depends.{standing_depends}
 use Rattle.algebra.proofs.Restrict.{total_certain, restricted_low, restricted_high}

@@ -1,7 +1,7 @@
 -- What the passes over the nodes store: the numbers with one event failed or sound for certain. Events are taken in rising order, and a pass writes only at
 -- nodes of events up to its own, so that those of later events keep the numbers that the given chances give.
 -- Assumes nothing.
-use Rattle.std.specs.Prelude.{◌≡◌, Bool, true, false, cond, ◌||◌, ◌&&◌, List, ℕ, zero, suc, ◌+◌, ◌-◌, ◌≤◌, ◌<◌, ltb, eqb, length, get_or, set}
+use Rattle.std.specs.Prelude.{◌≡◌, Bool, cond, ◌||◌, ◌&&◌, List, ℕ, zero, suc, ◌+◌, ◌-◌, ◌≤◌, ◌<◌, ltb, eqb, length, get_or, set}
 use Rattle.paper.specs.Limits.{billion}
 use Rattle.tables.specs.Table.{event_of}
 use Rattle.bracket.specs.Pass.{number_of, number_in, Priced}

@@ -1,10 +1,10 @@
 -- The recursion: the failed halves, then the sound halves, then the node over both.
 -- Assumes nothing.
-use mathlib.Core.Path.{◌≡◌, refl, sym, ap, ap₂, ◌∙◌, subst}
+use mathlib.Core.Path.{◌≡◌, refl, sym, ap₂, ◌∙◌, subst}
 use mathlib.Core.List.{List}
-use Prim.Native.Nat.{ℕ, ◌+◌, ◌-◌, ◌/◌, ◌<◌, min, max}
+use Rattle.std.specs.Prelude.{Result, Ok, Err}
+use Prim.Native.Nat.{ℕ, ◌+◌, ◌-◌, ◌<◌, min, max}
 use native.Mathlib.Omega.{arith}
-use lib.ListN.{length}
 use Rattle.paper.specs.Lists.{In}
 use Rattle.paper.specs.Diagrams.{Diagram, Reduced, mk_d}
 use Rattle.algebra.specs.Operations.{join_d, subs}
@@ -13,14 +13,14 @@ use Rattle.algebra.proofs.Subs.{mk_subs}
 use Rattle.tables.specs.Table.{den}
 use Rattle.tables.specs.Stored.{Lower}
 use Rattle.store.specs.Store.{Grown}
-use Rattle.store.specs.Building.{Is, Part, Found, Step, Stops}
-use Rattle.store.specs.Memo.{Memo, Place}
+use Rattle.store.specs.Building.{Is, Part, Found, Step, Stops, Finished, Finishes}
+use Rattle.store.specs.Memo.{Memo}
 use Rattle.store.specs.declared.Built.{Built}
-use Rattle.store.specs.declared.Built.TheVariants.{Done, Short}
+use Rattle.store.specs.declared.Full.{Full}
 use Rattle.store.proofs.Denotes.{den_grown}
 use Rattle.store.proofs.Building.{makes_here, step_more, stops_more, step_seq, stops_seq, still, tidy_step, is_part, part_trans}
-use Rattle.store.proofs.Memory.{memo_keep, memo_map, place_kept}
-use Rattle.pairs.specs.Pairs.{bit, Right, Parted, Answers, Finished, Finishes}
+use Rattle.store.proofs.Memory.{memo_keep, memo_map}
+use Rattle.pairs.specs.Pairs.{bit, Right, Parted, Answers}
 use Rattle.store.specs.declared.Parts.{Parts}
 use Rattle.pairs.proofs.Apart.{join_arranged}
 use Rattle.joins.specs.Joins.{Ready, Joined, Joins}
@@ -41,10 +41,6 @@ right_grown w k op f g r x = let m = k.more in record {
 pub memo_grown : {T T' M : List ℕ} {c c' : ℕ} → Lower T c → Grown T c T' c' → Memo (Right T c) M → Memo (Right T' c') M
 memo_grown w k m = memo_map (right_grown w k) m
 
--- a full table has as many nodes as it has room for
-full_is : {W : Diagram → Type 0} {T : List ℕ} {c : ℕ} {T' H' X' : List ℕ} {c' : ℕ} → Stops W T c T' H' X' c' → {s : Built} → s ≡ Short (length T' / 3) → Short c' ≡ s
-full_is x w = ap Short x.lacks.full ∙ sym w
-
 -- a known answer adds nothing
 pub known : {T H X M : List ℕ} {c z f g r : ℕ} → Ready T H X M c z f g → Answers M z f g r → Joined T M c (join_d (bit z) (den T f) (den T g)) T H X M c r
 known {T} {H} {X} {M} {c} rd a = record {
@@ -54,12 +50,17 @@ known {T} {H} {X} {M} {c} rd a = record {
   long = refl;
 }
 
+-- the same, said of what two ways of the code have come to
+pub joined_is : {T M : List ℕ} {c : ℕ} {D : Diagram} {T₁ H₁ X₁ M₁ T₂ H₂ X₂ M₂ : List ℕ} {b₁ b₂ : Built} → T₂ ≡ T₁ → H₂ ≡ H₁ → X₂ ≡ X₁ → M₂ ≡ M₁ → b₂ ≡ b₁
+    → Joined T M c D T₁ H₁ X₁ M₁ b₁.count b₁.node → Joined T M c D T₂ H₂ X₂ M₂ b₂.count b₂.node
+joined_is t h x m b j = rw (t, h, x, m, b) j
+
 module _ {T H X M : List ℕ} {c z f g : ℕ} {p : Parts} (rd : Ready T H X M c z f g) (pt : Parted T f g p) where
   -- the whole and its two halves
   abbrev whole : Diagram
   whole = join_d (bit z) (den T f) (den T g)
 
-  abbrev half_1 : Diagram
+  abbrev pub half_1 : Diagram
   half_1 = join_d (bit z) (den T p.f1) (den T p.g1)
 
   abbrev half_0 : Diagram
@@ -82,10 +83,8 @@ module _ {T H X M : List ℕ} {c z f g : ℕ} {p : Parts} (rd : Ready T H X M c 
   }
 
   -- a full table in the first half
-  pub short_1 : (T₁ H₁ X₁ M₁ : List ℕ) {r : Built} {c₁ : ℕ} → r ≡ Short c₁ → Joins T M c half_1 T₁ H₁ X₁ M₁ r → {s : Built} → s ≡ Short (length T₁ / 3) → Joins T M c whole T₁ H₁ X₁ M₁ s
-  short_1 T₁ H₁ X₁ M₁ q h w =
-      let x = subst (Joins T M c half_1 T₁ H₁ X₁ M₁) q h in
-      subst (Joins T M c whole T₁ H₁ X₁ M₁) (full_is x w) (stops_more (part_trans inside_1) x)
+  pub short_1 : {T₁ H₁ X₁ : List ℕ} {c₁ : ℕ} → Stops (Part half_1) T c T₁ H₁ X₁ c₁ → Stops (Part whole) T c T₁ H₁ X₁ c₁
+  short_1 x = stops_more (part_trans inside_1) x
 
   module _ {T₁ H₁ X₁ M₁ : List ℕ} {c₁ r₁ : ℕ} (a : Joined T M c half_1 T₁ H₁ X₁ M₁ c₁ r₁) where
     step_1 : Step (Part whole) T c T₁ H₁ X₁ c₁
@@ -102,7 +101,7 @@ module _ {T H X M : List ℕ} {c z f g : ℕ} {p : Parts} (rd : Ready T H X M c 
     }
 
     -- the second half, said of the table as it is now
-    abbrev half_now : Diagram
+    abbrev pub half_now : Diagram
     half_now = join_d (bit z) (den T₁ p.f0) (den T₁ p.g0)
 
     now_is : half_now ≡ half_0
@@ -114,10 +113,8 @@ module _ {T H X M : List ℕ} {c z f g : ℕ} {p : Parts} (rd : Ready T H X M c 
     inside_now = subst (λ d. In d (subs whole)) (sym now_is) inside_0
 
     -- a full table in the second half
-    pub short_0 : (T₂ H₂ X₂ M₂ : List ℕ) {r : Built} {c₂ : ℕ} → r ≡ Short c₂ → Joins T₁ M₁ c₁ half_now T₂ H₂ X₂ M₂ r → {s : Built} → s ≡ Short (length T₂ / 3) → Joins T M c whole T₂ H₂ X₂ M₂ s
-    short_0 T₂ H₂ X₂ M₂ q h w =
-        let x = subst (Joins T₁ M₁ c₁ half_now T₂ H₂ X₂ M₂) q h in
-        subst (Joins T M c whole T₂ H₂ X₂ M₂) (full_is x w) (stops_seq step_1 (stops_more (part_trans inside_now) x))
+    pub short_0 : {T₂ H₂ X₂ : List ℕ} {c₂ : ℕ} → Stops (Part half_now) T₁ c₁ T₂ H₂ X₂ c₂ → Stops (Part whole) T c T₂ H₂ X₂ c₂
+    short_0 x = stops_seq step_1 (stops_more (part_trans inside_now) x)
 
     module _ {T₂ H₂ X₂ M₂ : List ℕ} {c₂ r₀ : ℕ} (b : Joined T₁ M₁ c₁ half_now T₂ H₂ X₂ M₂ c₂ r₀) where
       step_2 : Step (Part whole) T c T₂ H₂ X₂ c₂
@@ -131,9 +128,6 @@ module _ {T H X M : List ℕ} {c z f g : ℕ} {p : Parts} (rd : Ready T H X M c 
 
       pub in_0 : r₀ < c₂ + 2
       in_0 = b.makes.found.within
-
-      pub place_2 : {at : ℕ} → Place M at → Place M₂ at
-      place_2 l = place_kept (b.long ∙ a.long) l
 
       abbrev last : Diagram
       last = mk_d p.e (den T₂ r₁) (den T₂ r₀)
@@ -174,9 +168,9 @@ module _ {T H X M : List ℕ} {c z f g : ℕ} {p : Parts} (rd : Ready T H X M c 
             long = k.keeps.long ∙ b.long ∙ a.long;
           }
 
-      pub all : (T₃ H₃ X₃ M₃ : List ℕ) (r : Built) → Finishes T₂ M₂ c₂ last (z + 1) f g T₃ H₃ X₃ M₃ r → Joins T M c whole T₃ H₃ X₃ M₃ r
-      all T₃ H₃ X₃ M₃ (Done r c₃) k = done k
-      all T₃ H₃ X₃ M₃ (Short c₃) k = short_2 k
+      pub all : (T₃ H₃ X₃ M₃ : List ℕ) (r : Result Built Full) → Finishes T₂ M₂ c₂ last (z + 1) f g T₃ H₃ X₃ M₃ r → Joins T M c whole T₃ H₃ X₃ M₃ r
+      all T₃ H₃ X₃ M₃ (Ok r) k = done k
+      all T₃ H₃ X₃ M₃ (Err x) k = short_2 k
 
 -- ---- the operands in the order of their numbers
 
@@ -191,5 +185,5 @@ module _ {T H X M : List ℕ} {c z x y f g : ℕ} (rd : Ready T H X M c z x y) (
     g_in = omega arith;
   }
 
-  pub joins_arranged : (T' H' X' M' : List ℕ) (r : Built) → Joins T M c (join_d (bit z) (den T f) (den T g)) T' H' X' M' r → Joins T M c (join_d (bit z) (den T x) (den T y)) T' H' X' M' r
+  pub joins_arranged : (T' H' X' M' : List ℕ) (r : Result Built Full) → Joins T M c (join_d (bit z) (den T f) (den T g)) T' H' X' M' r → Joins T M c (join_d (bit z) (den T x) (den T y)) T' H' X' M' r
   joins_arranged T' H' X' M' r j = subst (λ D. Joins T M c D T' H' X' M' r) (join_arranged T (bit z) x y f g low high) j

@@ -1,12 +1,12 @@
 -- And, or of two nodes of a store: what is handed over, and what is handed back.
 -- Assumes nothing.
-use Rattle.std.specs.Prelude.{◌≡◌, List, ℕ, ◌+◌, ◌<◌, length}
+use Rattle.std.specs.Prelude.{◌≡◌, List, ℕ, ◌+◌, ◌<◌, length, Result, Ok, Err}
 use Rattle.paper.specs.Diagrams.{Diagram}
 use Rattle.store.specs.Store.{Store}
 use Rattle.store.specs.Building.{Part, Makes, Stops, Tidy}
 use Rattle.store.specs.Memo.{Memo}
 use Rattle.store.specs.declared.Built.{Built}
-use Rattle.store.specs.declared.Built.TheVariants.{Done, Short}
+use Rattle.store.specs.declared.Full.{Full}
 use Rattle.pairs.specs.Pairs.{Right}
 
 -- what joining f and g is handed
@@ -26,6 +26,6 @@ pub record Joined (T M : List ℕ) (c : ℕ) (D : Diagram) (T' H' X' M' : List �
   pub long : length M' ≡ length M
 
 -- or the table is full, and lacks a part of D
-abbrev pub Joins : (T M : List ℕ) (c : ℕ) (D : Diagram) (T' H' X' M' : List ℕ) → Built → Type 0
-Joins T M c D T' H' X' M' (Done r c') = Joined T M c D T' H' X' M' c' r
-Joins T M c D T' H' X' M' (Short c') = Stops (Part D) T c T' H' X' c'
+abbrev pub Joins : (T M : List ℕ) (c : ℕ) (D : Diagram) (T' H' X' M' : List ℕ) → Result Built Full → Type 0
+Joins T M c D T' H' X' M' (Ok b) = Joined T M c D T' H' X' M' b.count b.node
+Joins T M c D T' H' X' M' (Err x) = Stops (Part D) T c T' H' X' x.count

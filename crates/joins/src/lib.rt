@@ -8,8 +8,8 @@ ghost use Rattle.store.specs.Memo.{Place};
 ghost use Rattle.pairs.specs.Pairs.{bit};
 ghost use Rattle.joins.specs.Joins.{Ready, Joins};
 
-use pairs::{ask, finish, full, least, most, take_apart};
-use store::{Built, Known};
+use pairs::{ask, take_apart};
+use store::{Built, Full, Known, finish};
 
 // Two nodes whose answer is not known, and its place in the memo. Asking comes before each call: half of all questions need none.
 fn join_nodes(
@@ -22,7 +22,7 @@ fn join_nodes(
     f: u32,
     g: u32,
     at: usize,
-) -> Built
+) -> Result<Built, Full>
     requires ready { Ready nodes.old heads.old next.old memo.old count z f g }
     requires le_f { 2 ≤ f }
     requires f_le_g { f ≤ g }
@@ -30,34 +30,32 @@ fn join_nodes(
     ensures { Joins nodes.old memo.old count (join_d (bit z) (den nodes.old f) (den nodes.old g)) nodes.new heads.new next.new memo.new result }
 {
     let p = take_apart(nodes, heads, next, count, f, g);
-    match ask(memo, z, p.f1, p.g1) {
-        Known::Node(r1) => match ask(memo, z, p.f0, p.g0) {
-            Known::Node(r0) => finish(nodes, heads, next, memo, count, z, f, g, at, p.e, r1, r0),
-            Known::Unknown(at0) => {
-                let b = join_nodes(nodes, heads, next, memo, count, z, p.f0, p.g0, at0);
-                let Built::Done(r0, c0) = b else {
-                    return full(nodes);
-                };
-                finish(nodes, heads, next, memo, c0, z, f, g, at, p.e, r1, r0)
-            }
+    let a = match ask(memo, z, p.f1, p.g1) {
+        Known::Node(node) => Built { node, count },
+        Known::Unknown(at1) => join_nodes(nodes, heads, next, memo, count, z, p.f1, p.g1, at1)?,
+    };
+    let b = match ask(memo, z, p.f0, p.g0) {
+        Known::Node(node) => Built {
+            node,
+            count: a.count,
         },
-        Known::Unknown(at1) => {
-            let a = join_nodes(nodes, heads, next, memo, count, z, p.f1, p.g1, at1);
-            let Built::Done(r1, c1) = a else {
-                return full(nodes);
-            };
-            match ask(memo, z, p.f0, p.g0) {
-                Known::Node(r0) => finish(nodes, heads, next, memo, c1, z, f, g, at, p.e, r1, r0),
-                Known::Unknown(at0) => {
-                    let b = join_nodes(nodes, heads, next, memo, c1, z, p.f0, p.g0, at0);
-                    let Built::Done(r0, c0) = b else {
-                        return full(nodes);
-                    };
-                    finish(nodes, heads, next, memo, c0, z, f, g, at, p.e, r1, r0)
-                }
-            }
-        }
-    }
+        Known::Unknown(at0) => join_nodes(nodes, heads, next, memo, a.count, z, p.f0, p.g0, at0)?,
+    };
+    finish(
+        nodes,
+        heads,
+        next,
+        memo,
+        b.count,
+        z + 1,
+        f,
+        g,
+        at,
+        p.e,
+        a.node,
+        b.node,
+        b.node,
+    )
 }
 
 // The node of x and y, with z 0; of x or y, with z 1.
@@ -70,14 +68,14 @@ pub fn join(
     z: u32,
     x: u32,
     y: u32,
-) -> Built
+) -> Result<Built, Full>
     requires { Ready nodes.old heads.old next.old memo.old count z x y }
     ensures { Joins nodes.old memo.old count (join_d (bit z) (den nodes.old x) (den nodes.old y)) nodes.new heads.new next.new memo.new result }
 {
-    let f = least(x, y);
-    let g = most(x, y);
+    let f = x.min(y);
+    let g = x.max(y);
     match ask(memo, z, f, g) {
-        Known::Node(r) => Built::Done(r, count),
+        Known::Node(node) => Ok(Built { node, count }),
         Known::Unknown(at) => join_nodes(nodes, heads, next, memo, count, z, f, g, at),
     }
 }

@@ -6,26 +6,25 @@ use mathlib.Core.List.{List, []}
 use Prim.Native.Nat.{ℕ, ◌+◌, ◌-◌, ◌≤◌, ◌<◌}
 use native.Mathlib.Omega.{arith}
 use lib.ListN.{length, get_or, set}
+use Rattle.std.specs.Prelude.{Option, Some, None, Result, Ok, Err}
 use Rattle.paper.specs.Limits.{limits}
 use Rattle.rules.specs.Format.{width_of}
 use Rattle.rules.specs.Rules.{admit_of, step_of}
-use Rattle.records.specs.Judge.{Book, start, counts, ◌▷◌, add_gate, add_input, starved, outcome, close_of, accept, refuse, answer_of, unused_by}
+use Rattle.records.specs.Judge.{Book, start, counts, ◌▷◌, add_gate, add_input, starved, outcome, close_of, refuse, unused_by}
 use Rattle.records.specs.Thresholds.{starved_by}
 use Rattle.rules.specs.States.{past_event, past_gate, past_input}
 use Rattle.records.specs.Memory.{pad}
 use Rattle.judging.specs.Bytes.{bytes_of, told_least}
 use Rattle.records.specs.Inner.{Counted, Fronts, Ready, Seeks}
 use Rattle.judging.specs.Inner.{Own, Sized, Surveyed}
-use Rattle.rules.specs.declared.Answer.{Answer}
-use Rattle.rules.specs.declared.Answer.TheVariants.{Done, Threshold, Unused}
+use Rattle.rules.specs.declared.Refusal.{Refusal}
+use Rattle.rules.specs.declared.Refusal.TheVariants.{Threshold}
 use Rattle.records.specs.declared.Tree.{Tree}
 use Rattle.rules.specs.declared.format.Record.{Record}
 use Rattle.rules.specs.declared.format.Record.TheVariants.{Gate}
 use Rattle.rules.specs.declared.judge.State.{State}
 use Rattle.rules.specs.declared.judge.Step.{Step}
-use Rattle.rules.specs.declared.judge.Step.TheVariants.{AddEvent, AddGate, AddInput, Close, Refused}
-use Rattle.records.specs.declared.uses.Found.{Found}
-use Rattle.records.specs.declared.uses.Found.TheVariants.{At, Nothing}
+use Rattle.rules.specs.declared.judge.Step.TheVariants.{AddEvent, AddGate, AddInput, Close}
 use Rattle.records.proofs.Pad.{length_▷, pad_take}
 use Rattle.records.proofs.Sums.{new}
 use Rattle.records.proofs.Keeping.{Kept}
@@ -36,26 +35,6 @@ use Rattle.rules.proofs.Steps.{Sound}
 use Rattle.records.proofs.Runs.{Running, running_start, running_sound, running_event, running_gate, running_input, running_starved, running_close, running_refused, running_bounded}
 use Rattle.judging.proofs.Rest.{next_record, gate_record_at, gate_told, tag, is_end}
 use Rattle.judging.proofs.Following.{Following, follow_start, follow_step, follow_event, follow_gate, follow_input, at_gate, read_back, end_length}
-
--- what the search leaves of the answer
-sized_answer : (b : Book) (f : Found) → f ≡ unused_by b → (n : ℕ) (a : Answer) (m : ℕ) → Sized f n a m → a ≡ answer_of (close_of b)
-sized_answer b (At p) q n a m s = s.0 ∙ ap answer_of (sym (closes_at b q))
-sized_answer b Nothing q n a m s = s.0 ∙ ap answer_of (sym (closes_none b q))
-
-sized_done : (b : Book) (f : Found) → f ≡ unused_by b → (n : ℕ) (a : Answer) (m : ℕ) → Sized f n a m → a ≡ Done → (m ≡ n) × (close_of b ≡ accept b)
-sized_done b (At p) q n a m s d =
-    let x : Unused p ≡ Done = sym s.0 ∙ d in
-    let z : ◌≡◌ {A = ℕ} 0 1 = cc in absurd (omega arith)
-sized_done b Nothing q n a m s d = (s.1, closes_none b q)
-
--- a refusal is the answer
-refused_surveyed : {t : Tree} {x a : Answer} {m : ℕ} → outcome limits (bytes_of t) ≡ refuse x → (x ≡ Done → ⊥) → a ≡ x → Surveyed t a m
-refused_surveyed refused not d = record {
-  answer = d ∙ ap answer_of (sym refused);
-  bytes = λ z. absurd (not (sym d ∙ z));
-  accepted = λ z. absurd (not (sym d ∙ z));
-  few = λ z. absurd (not (sym d ∙ z));
-}
 
 -- the last gate that was read has the kind of the tree's, and its k
 pub record LastRead (t : Tree) (b : Book) : Type 0 where
@@ -98,13 +77,13 @@ module _ {t : Tree} {sizes places inputs : List ℕ} {s : State} (v : Surveying 
   survey_fronts = arrays_fronts v.arrays v.running.kept
 
   module _ {r : Record} (e : r ≡ next_record t s) (own : Own r) where
-    pub survey_step : {x : Step} → x ≡ admit_of limits (s.at + width_of r) s r → x ≡ step_of limits (bytes_of t) s
+    pub survey_step : {x : Result Step Refusal} → x ≡ admit_of limits (s.at + width_of r) s r → x ≡ step_of limits (bytes_of t) s
     survey_step q = q ∙ follow_step v.following e own
 
-    pub survey_sound : {x : Step} → x ≡ admit_of limits (s.at + width_of r) s r → Sound (length (bytes_of t)) s r x
+    pub survey_sound : {x : Result Step Refusal} → x ≡ admit_of limits (s.at + width_of r) s r → Sound (length (bytes_of t)) s r x
     survey_sound q = rw (read_back v.following e own) at (running_sound v.running (survey_step q))
 
-    pub survey_event : (c site : ℕ) (sited : Bool) (next : ℕ) → AddEvent c site sited next ≡ admit_of limits (s.at + width_of r) s r → Surveying t sizes places inputs (past_event s sited next)
+    pub survey_event : (c site : ℕ) (sited : Bool) (next : ℕ) → Ok (AddEvent c site sited next) ≡ admit_of limits (s.at + width_of r) s r → Surveying t sizes places inputs (past_event s sited next)
     unfolding running_event
     survey_event c site sited next q = record {
       running = running_event v.running c site sited next (survey_step q);
@@ -113,7 +92,7 @@ module _ {t : Tree} {sizes places inputs : List ℕ} {s : State} (v : Surveying 
       last = λ some. record { kind = (v.last some).kind; least = (v.last some).least };
     }
 
-    pub survey_gate : (kind k n next : ℕ) → AddGate kind k n next ≡ admit_of limits (s.at + width_of r) s r
+    pub survey_gate : (kind k n next : ℕ) → Ok (AddGate kind k n next) ≡ admit_of limits (s.at + width_of r) s r
         → Surveying t (set sizes s.gates n) (set places s.gates s.at) inputs (past_gate s n next)
     unfolding running_gate
     survey_gate kind k n next q =
@@ -126,7 +105,7 @@ module _ {t : Tree} {sizes places inputs : List ℕ} {s : State} (v : Surveying 
           last = λ _. last_read t v.running.book kind k n next v.running.kept (rw p at on.few) (rw p at (sym (at_gate v.following e on).2 ∙ on.shape));
         }
 
-    module _ {i next : ℕ} (q : AddInput i next ≡ admit_of limits (s.at + width_of r) s r) where
+    module _ {i next : ℕ} (q : Ok (AddInput i next) ≡ admit_of limits (s.at + width_of r) s r) where
       abbrev fed : Bool
       fed = starved_by t.kinds t.leasts sizes (set inputs s.inputs i) (past_input s next)
 
@@ -154,13 +133,12 @@ module _ {t : Tree} {sizes places inputs : List ℕ} {s : State} (v : Surveying 
       }
 
       -- the place of the gate's record
-      pub survey_starved : fed ≡ true → {a : Answer} {m : ℕ} → a ≡ Threshold (get_or places (s.gates - 1) 0) → Surveyed t a m
-      survey_starved wrong d =
-          refused_surveyed (running_starved v.running i next (survey_step q) (sym survey_told ∙ wrong))
-          (λ z. let y : ◌≡◌ {A = ℕ} 0 1 = cc in omega arith)
-          (d ∙ ap Threshold (place_in_lem v.running (survey_step q) v.arrays.places))
+      pub survey_starved : fed ≡ true → Surveyed t (Err (Threshold (get_or places (s.gates - 1) 0)))
+      survey_starved wrong =
+          running_starved v.running i next (survey_step q) (sym survey_told ∙ wrong)
+          ∙ ap (λ p. refuse (Threshold p)) (sym (place_in_lem v.running (survey_step q) v.arrays.places))
 
-    module _ (q : Close ≡ admit_of limits (s.at + width_of r) s r) where
+    module _ (q : Ok Close ≡ admit_of limits (s.at + width_of r) s r) where
       pub survey_ready : Ready sizes places inputs s
       survey_ready =
           let on = survey_sound q in
@@ -168,18 +146,22 @@ module _ {t : Tree} {sizes places inputs : List ℕ} {s : State} (v : Surveying 
           (v.running.book, survey_fronts, p, rw p at on.some_gate, rw p at on.none)
 
       -- what the search finds is the answer to the tree's bytes
-      pub survey_close : {f : Found} {a : Answer} {m : ℕ} → Seeks sizes places inputs s f → Sized f (s.at + 1) a m → Surveyed t a m
-      survey_close {f} {a} {m} seeks sized =
-          let b : Book = v.running.book in
-          let found : f ≡ unused_by b = seeks b survey_fronts v.running.state in
-          let closed : outcome limits (bytes_of t) ≡ close_of b = running_close v.running (survey_step q) in
-          let long : length (bytes_of t) ≡ s.at + 1 = end_length v.following e (survey_sound q).shape in
-          record {
-            answer = sized_answer b f found (s.at + 1) a m sized ∙ ap answer_of (sym closed);
-            bytes = λ d. (sized_done b f found (s.at + 1) a m sized d).0 ∙ sym long;
-            accepted = λ d. (b, closed ∙ (sized_done b f found (s.at + 1) a m sized d).1);
-            few = λ d. omega (arith, is_end t s (ap tag (sym e ∙ (survey_sound q).shape)), running_bounded v.running);
-          }
+      pub survey_close : {f : Option ℕ} (x : Result ℕ Refusal) → Seeks sizes places inputs s f → Sized f (s.at + 1) x → Surveyed t x
+      survey_close {f} x seeks sized = go f (seeks b survey_fronts v.running.state) sized
+        where
+          b : Book
+          b = v.running.book
 
-    pub survey_refused : (x : Answer) {a : Answer} {m : ℕ} → Refused x ≡ admit_of limits (s.at + width_of r) s r → a ≡ x → Surveyed t a m
-    survey_refused x q d = refused_surveyed (running_refused v.running x (survey_step q)) (survey_sound q) d
+          closed : outcome limits (bytes_of t) ≡ close_of b
+          closed = running_close v.running (survey_step q)
+
+          go : (f : Option ℕ) → f ≡ unused_by b → Sized f (s.at + 1) x → Surveyed t x
+          go (Some p) found is = rw is (closed ∙ closes_at b found)
+          go None found is = rw is (record {
+            bytes = sym (end_length v.following e (survey_sound q).shape);
+            accepted = (b, closed ∙ closes_none b found);
+            few = omega (arith, is_end t s (ap tag (sym e ∙ (survey_sound q).shape)), running_bounded v.running);
+          })
+
+    pub survey_refused : (a : Refusal) {x : Result ℕ Refusal} → Err a ≡ admit_of limits (s.at + width_of r) s r → x ≡ Err a → Surveyed t x
+    survey_refused a q d = rw d (running_refused v.running a (survey_step q))

@@ -9,24 +9,11 @@ ghost use Rattle.judging.specs.Inner.{Own, Within, Surveyed, Sized};
 
 use paper::{EVENTS, GATES, GATES_FROM, IN_ALL, WIDE_FROM};
 use records::thresholds::starved;
-use records::uses::{Found, unused_in};
+use records::uses::unused_in;
 use records::{Event, Tree};
-use rules::Answer;
+use rules::Refusal;
 use rules::format::{Record, width};
 use rules::judge::{State, Step, admit, begin, past_event, past_gate, past_input};
-
-// What writing a tree answers: the bytes are 0 in a refusal.
-#[derive(Clone, Copy)]
-pub struct Written {
-    pub answer: Answer,
-    pub bytes: usize,
-}
-
-pub fn unwritten(answer: Answer) -> Written
-    ensures { (result.answer ≡ answer) × (result.bytes ≡ 0) }
-{
-    Written { answer, bytes: 0 }
-}
 
 // The record of an input: an event's by its number, which is all that memory has.
 pub fn input_record(code: u16) -> Record
@@ -110,24 +97,18 @@ pub fn tree_record<'a>(
 }
 
 // The end record is judged: of so many bytes.
-fn surveyed(f: Found, bytes: usize) -> Written
-    ensures { Sized f bytes result.answer result.bytes }
+fn surveyed(f: Option<usize>, bytes: usize) -> Result<usize, Refusal>
+    ensures { Sized f bytes result }
 {
     match f {
-        Found::At(place) => Written {
-            answer: Answer::Unused(place),
-            bytes: 0,
-        },
-        Found::Nothing => Written {
-            answer: Answer::Done,
-            bytes,
-        },
+        Some(place) => Err(Refusal::Unused(place)),
+        None => Ok(bytes),
     }
 }
 
 // What the bytes of a tree would be answered, and how many they are where that is Done.
-pub fn survey(t: Tree) -> Written
-    ensures { Surveyed t result.answer result.bytes }
+pub fn survey(t: Tree) -> Result<usize, Refusal>
+    ensures { Surveyed t result }
 {
     let mut sizes = [0u8; GATES];
     let mut places = [0usize; GATES];
@@ -150,7 +131,7 @@ pub fn survey(t: Tree) -> Written
             &t.inputs,
             s,
         );
-        match admit(s, at + width(r), r) {
+        match admit(s, at + width(r), r)? {
             Step::AddEvent(_, _, sited, after) => s = past_event(s, sited, after),
             Step::AddGate(_, _, size, after) => {
                 sizes[g] = size;
@@ -162,11 +143,10 @@ pub fn survey(t: Tree) -> Written
                 s = past_input(s, after);
                 if starved(&t.kinds, &t.leasts, &sizes, &inputs, s) {
                     let gate = places[g - 1];
-                    return unwritten(Answer::Threshold(gate));
+                    return Err(Refusal::Threshold(gate));
                 }
             }
             Step::Close => return surveyed(unused_in(&sizes, &places, &inputs, s), at + 1),
-            Step::Refused(answer) => return unwritten(answer),
         }
     }
 }

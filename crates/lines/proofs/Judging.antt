@@ -1,6 +1,7 @@
 -- What a line says, way by way through the functions that judge it.
 -- Assumes nothing.
 use mathlib.Core.Path.{◌≡◌, refl, sym, ap, ◌∙◌}
+use Rattle.std.specs.Prelude.{Option}
 use mathlib.Core.Bool.{Bool, true, false, cond, ◌&&◌}
 use mathlib.Core.List.{List, [], ◌∷◌}
 use Prim.Native.Nat.{ℕ, ◌+◌, ◌<◌, ◌≤◌}
@@ -166,7 +167,7 @@ module _ {s : List ℕ} {i d : ℕ} (x : List ℕ) (n : Ends digit s i d) where
     }
 
 module _ (s x : List ℕ) (i : ℕ) where
-  pub right_counted : (at : ℕ) (k : Kind) → starts at_least_word (drop i s) ≡ true → Reads s (counted_of x (drop (i + 9) s)) x at k → Reads s (right_of x (drop i s)) x at k
+  pub right_counted : (at : ℕ) (k : Option Kind) → starts at_least_word (drop i s) ≡ true → Reads s (counted_of x (drop (i + 9) s)) x at k → Reads s (right_of x (drop i s)) x at k
   unfolding right_of
   right_counted at k h t = let z : drop 9 (drop i s) ≡ drop (i + 9) s = drop-drop 9 i s in rw (h, z) t
 
@@ -200,7 +201,7 @@ right_empty x = refl
 
 -- ---- the line
 
-pub judge_chance : (s x : List ℕ) (at : ℕ) (k : Kind) → starts chance_word (drop at s) ≡ true → Reads s (chance_of (drop (at + 2) s)) x at k → Reads s (line_of (drop at s)) x at k
+pub judge_chance : (s x : List ℕ) (at : ℕ) (k : Option Kind) → starts chance_word (drop at s) ≡ true → Reads s (chance_of (drop (at + 2) s)) x at k → Reads s (line_of (drop at s)) x at k
 unfolding line_of
 judge_chance s x at k h t = let z : drop 2 (drop at s) ≡ drop (at + 2) s = drop-drop 2 at s in rw (h, z) t
 
@@ -224,7 +225,7 @@ module _ {s : List ℕ} {at e : ℕ} (n : Ends letter_or_digit s at e) (u : star
       go [] q = rw (u, behind_none equals_divides (drop at s) q, right_empty (before equals (drop at s))) (cut (is_name (before equals (drop at s))))
       go (b ∷ r) q = line_bad (no_sep equals_divides (drop at s) (rw n.rest at h) (λ z. let y : ◌≡◌ {A = ℕ} 0 1 = cc in omega arith))
 
-  pub judge_right : (x : List ℕ) (k : Kind) → is_name (name_at s at) ≡ true → starts equals (drop e s) ≡ true → Reads s (right_of (name_at s at) (drop (e + 3) s)) x at k → Reads s (line_of (drop at s)) x at k
+  pub judge_right : (x : List ℕ) (k : Option Kind) → is_name (name_at s at) ≡ true → starts equals (drop e s) ≡ true → Reads s (right_of (name_at s at) (drop (e + 3) s)) x at k → Reads s (line_of (drop at s)) x at k
   unfolding line_of
   judge_right x k g h t =
       let y : starts equals (past letter_or_digit (drop at s)) ≡ true = rw n.rest at h in

@@ -1,4 +1,4 @@
--- The longest front of bytes that pass a test: by places of a list, and the three ways through a loop that looks for its end.
+-- The longest front of bytes that pass a test, by places of a list.
 -- Assumes nothing.
 use mathlib.Core.Path.{◌≡◌, refl, sym, ap, ◌∙◌}
 use mathlib.Core.Bool.{Bool, true, false, cond}
@@ -6,8 +6,10 @@ use mathlib.Core.List.{List, [], ◌∷◌, ◌++◌}
 use Prim.Native.Nat.{ℕ, suc, ◌+◌, ◌-◌, ◌<◌, ◌≤◌}
 use native.Mathlib.Numerals.{add-one}
 use native.Mathlib.Omega.{arith}
-use lib.ListN.{get_or, length, take, drop, drop_of_length-le}
-use lib.Seq.{drop-cons, take_at}
+use lib.ListN.{get_or, length, take, drop, length-append, length-drop, drop_of_length-le}
+use lib.Seq.{drop-cons, drop-drop, drop_at, take_at, length-take-le, get_or-take, get_or-drop}
+use Rattle.std.specs.List.{prefix_len}
+use Rattle.std.proofs.lemmas.List.{take_rest}
 use Rattle.paper.specs.Lists.{every}
 use Rattle.paper.specs.Bytes.{lead, past}
 use Rattle.lines.specs.Reading.{Ends}
@@ -79,34 +81,32 @@ drop_at_end s e h = drop_of_length-le s h
 pub drop_next : (s : List ℕ) (e : ℕ) → e < length s → drop e s ≡ get_or s e 0 ∷ drop (e + 1) s
 drop_next s e h = rw add-one (drop-cons s e 0 h)
 
+-- the bytes that pass the library's test, counted
+module _ {p q : ℕ → Bool} (tests : (b : ℕ) → p b ≡ q b) where
+  lead_size : (l : List ℕ) → length (lead p l) ≡ prefix_len q l
+  unfolding lead
+  lead_size [] = refl
+  lead_size (b ∷ l) = rw (tests b) (go (q b) (lead_size l))
+    where
+      go : (t : Bool) → length (lead p l) ≡ prefix_len q l → length (cond t (b ∷ lead p l) []) ≡ cond t (1 + prefix_len q l) 0
+      go true e = omega (arith, e)
+      go false e = refl
+
+  pub ends_taken : (s : List ℕ) (i n : ℕ) → i ≤ length s → n ≡ prefix_len q (take (length s - i) (drop i s)) → Ends p s i (i + n)
+  ends_taken s i n h k =
+      let size : n ≡ length (lead p (drop i s)) = k ∙ ap (prefix_len q) (take_rest s i) ∙ sym (lead_size (drop i s)) in
+      let rest : drop n (drop i s) ≡ past p (drop i s) = ap (λ k. drop k (drop i s)) size ∙ ap (drop (length (lead p (drop i s)))) (sym (lead_past p (drop i s))) ∙ drop_at (lead p (drop i s)) (past p (drop i s)) (length (lead p (drop i s))) refl in
+      record {
+        from = omega arith;
+        inside = omega (arith, lead_room (drop i s), length-drop {A = ℕ});
+        size = ap (λ k. i + k) size;
+        rest = sym (drop-drop n i s) ∙ rest;
+      }
+    where
+      lead_room : (l : List ℕ) → length (lead p l) ≤ length l
+      lead_room l = omega (arith, ap length (lead_past p l), length-append (lead p l) (past p l))
+
 module _ {p : ℕ → Bool} {s : List ℕ} where
-  pub ends_stop : {e : ℕ} → e < length s → p (get_or s e 0) ≡ false → Ends p s e e
-  ends_stop {e} h q =
-      let k = drop_next s e h in record {
-        from = omega arith;
-        inside = omega arith;
-        size = rw (k, lead_no p (get_or s e 0) (drop (e + 1) s) q) (omega arith);
-        rest = rw k (sym (past_no p (get_or s e 0) (drop (e + 1) s) q));
-      }
-
-  pub ends_end : {e : ℕ} → e ≤ length s → length s ≤ e → Ends p s e e
-  ends_end {e} h q =
-      let k = drop_at_end s e q in record {
-        from = omega arith;
-        inside = h;
-        size = rw (k, lead_none p) (omega arith);
-        rest = rw k (sym (past_none p));
-      }
-
-  pub ends_step : {e r : ℕ} → e < length s → p (get_or s e 0) ≡ true → Ends p s (e + 1) r → Ends p s e r
-  ends_step {e} {r} h q w =
-      let k = drop_next s e h in record {
-        from = omega (arith, w.from);
-        inside = w.inside;
-        size = rw (k, lead_yes p (get_or s e 0) (drop (e + 1) s) q) (omega (arith, w.size));
-        rest = w.rest ∙ rw k (sym (past_yes p (get_or s e 0) (drop (e + 1) s) q));
-      }
-
   -- the front from i on, one byte after the other
   pub ends_here : {i e : ℕ} → Ends p s i e → i < e → p (get_or s i 0) ≡ true
   ends_here {i} {e} w h = go (p (get_or s i 0)) refl
@@ -145,3 +145,14 @@ module _ {p : ℕ → Bool} {s : List ℕ} where
   ends_part {i} {e} w =
       let z : e - i ≡ length (lead p (drop i s)) = omega (arith, w.size) in
       ap (λ k. take k (drop i s)) z ∙ ap (take (length (lead p (drop i s)))) (sym (lead_past p (drop i s))) ∙ take_at (lead p (drop i s)) (past p (drop i s)) (length (lead p (drop i s))) refl
+
+  -- and its bytes there
+  module _ {i e : ℕ} (w : Ends p s i e) where
+    pub slice_length : length (take (e - i) (drop i s)) ≡ e - i
+    slice_length = length-take-le (e - i) (drop i s) (omega (arith, w.from, w.inside, length-drop i s))
+
+    pub slice_inside : {k : ℕ} → k < length (take (e - i) (drop i s)) → i + k < e
+    slice_inside h = omega (arith, slice_length)
+
+    pub slice_byte : {k : ℕ} → k < length (take (e - i) (drop i s)) → get_or (take (e - i) (drop i s)) k 0 ≡ get_or s (i + k) 0
+    slice_byte {k} h = get_or-take (e - i) (drop i s) k 0 (omega (arith, slice_length)) ∙ get_or-drop i s k 0

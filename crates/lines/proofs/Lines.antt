@@ -5,7 +5,7 @@ use mathlib.Core.Bool.{Bool, true, false, cond, true≢false}
 use mathlib.Core.List.{List, [], ◌∷◌, ◌++◌}
 use Prim.Native.Nat.{ℕ, ◌+◌, ◌<◌, ◌≤◌}
 use native.Mathlib.Omega.{arith}
-use borrow.Author.Tests.{eqb-true, eq-eqb, ne_eqb}
+use borrow.Author.Tests.{eqb-true, eq-eqb}
 use lib.Dec.{eqb}
 use lib.ListN.{get_or, length, take, drop}
 use lib.Seq.{drop_at, take_at, take-add, length-take-le}
@@ -15,21 +15,13 @@ use Rattle.paper.specs.Texts.{says, line_feed, placed, lines_from}
 use Rattle.paper.specs.Spots.{places_of, places_in}
 use Rattle.lines.specs.Reading.{name_at, Ends, Divides, Reads, ReadsAt}
 use Rattle.lines.specs.declared.Kind.{Kind}
-use Rattle.lines.specs.declared.Kind.TheVariants.{Bad}
+use Rattle.std.specs.Prelude.{Option, None}
 use Rattle.lines.proofs.Leads.{lead_past, past_first, drop_next, drop_at_end}
 use Rattle.lines.proofs.Parts.{parts_none, parts_cut, rest_of, parts_first}
 
 pub feed_divides : Divides in_line line_feed
 unfolding in_line
 feed_divides = record { first = 10; others = []; is = refl; out = refl }
-
-pub in_line_lem : (b : ℕ) → (b ≡ 10 → ⊥) → in_line b ≡ true
-unfolding in_line
-in_line_lem b h = rw (ne_eqb b 10 h) refl
-
-pub no_line : (b : ℕ) → b ≡ 10 → in_line b ≡ false
-unfolding in_line
-no_line b h = rw (eq-eqb b 10 h) refl
 
 pub feed_only : (b : ℕ) → in_line b ≡ false → b ≡ 10
 unfolding in_line
@@ -55,7 +47,7 @@ module _ {text : List ℕ} {at stop : ℕ} (n : Ends in_line text at stop) where
   placed_open at [] h = absurd (omega arith)
   placed_open at (b ∷ l) h = refl
 
-  pub line_open : at < length text → length text ≤ stop → ReadsAt text at Bad stop stop
+  pub line_open : at < length text → length text ≤ stop → ReadsAt text at None stop stop
   unfolding lines_from parts_on
   line_open h k =
       let y : past in_line (drop at text) ≡ [] = sym n.rest ∙ drop_at_end text stop k in
@@ -91,7 +83,7 @@ module _ {text : List ℕ} {at stop : ℕ} (n : Ends in_line text at stop) where
       ∙ ap (λ k. places_of at k (line_of (lead in_line (drop at text))) ++ places_in (k + 1) (before line_feed (drop (stop + 1) text) ∷ rest_of feed_divides (drop (stop + 1) text))) (sym n.size)
       ∙ ap (λ m. places_of at stop (line_of (lead in_line (drop at text))) ++ places_in (stop + 1) m) (sym (parts_first feed_divides (drop (stop + 1) text)))
 
-  pub line_closed : (k : Kind) → stop < length text → Reads (take stop text) (line_of (drop at (take stop text))) (name_at (take stop text) at) at k → ReadsAt text at k stop (stop + 1)
+  pub line_closed : (k : Option Kind) → stop < length text → Reads (take stop text) (line_of (drop at (take stop text))) (name_at (take stop text) at) at k → ReadsAt text at k stop (stop + 1)
   line_closed k h r = record {
     line = line_of (drop at (take stop text));
     after = omega (arith, n.from);

@@ -4,58 +4,36 @@ use mathlib.Core.Path.{◌≡◌, refl, sym, ap, ◌∙◌}
 use native.Mathlib.Decide.{dec_le}
 use mathlib.Core.Bool.{Bool, true, false, not, ◌&&◌, ◌||◌, true≢false}
 use mathlib.Core.List.{List, [], ◌∷◌}
-use Prim.Native.Nat.{ℕ, ◌+◌, ◌-◌, ◌<◌, ◌≤◌}
+use Prim.Native.Nat.{ℕ, suc, ◌+◌, ◌-◌, ◌<◌, ◌≤◌}
 use native.Mathlib.Omega.{arith}
 use borrow.Author.Tests.{le-leb, lt-leb}
-use lib.Dec.{leb}
-use lib.ListN.{get_or, length, drop, length-drop}
+use lib.Dec.{eqb, leb, ltb}
+use lib.Pointwise.{pointwise}
+use lib.ListN.{get_or, length, take, drop, length-drop}
 use lib.Seq.{drop-drop}
 use Rattle.paper.specs.Bytes.{letter, letter_or_digit, lead, past, starts, same, before, parts_on, parts}
 use Rattle.paper.specs.Lists.{every}
 use Rattle.paper.specs.Grammar.{reserved, begins_with, is_name, is_row}
 use Rattle.lines.specs.Reading.{name_at, Ends, Divides, Steps}
-use Rattle.lines.proofs.Leads.{lead_every, lead_past, ends_front, ends_none, drop_at_end}
-use Rattle.lines.proofs.Parts.{same_front, same_size, before_none, before_cut, before_else, parts_none, parts_cut, parts_first}
+use Rattle.lines.proofs.Leads.{lead_every, ends_front, ends_none, ends_part, drop_at_end}
+use Rattle.lines.proofs.Parts.{same_is, before_none, before_cut, before_else, parts_none, parts_cut, parts_first}
 
 -- ---- words
 
-module _ {s : List ℕ} {i e : ℕ} (n : Ends letter_or_digit s i e) (w : List ℕ) where
-  pub word_size : (e - i ≡ length w → ⊥) → same (name_at s i) w ≡ false
-  word_size h = same_size (name_at s i) w (λ q. h (omega (arith, n.size)))
+pub word_is : {s : List ℕ} {i e : ℕ} → Ends letter_or_digit s i e → (w : List ℕ) → pointwise eqb (take (e - i) (drop i s)) w ≡ same (name_at s i) w
+word_is {s} {i} {e} n w = rw (ends_part n) (same_is (name_at s i) w)
 
-  pub word_same : e - i ≡ length w → same (name_at s i) w ≡ starts w (drop i s)
-  word_same h =
-      let z : length (name_at s i) ≡ length w = omega (arith, n.size) in
-      same_front (name_at s i) w (past letter_or_digit (drop i s)) z ∙ ap (starts w) (lead_past letter_or_digit (drop i s))
-
--- the reserved words one after the other
-module _ (w : List ℕ) where
-  pub reserved_and : same w (97 ∷ 110 ∷ 100 ∷ []) ≡ true → reserved w ≡ true
-  unfolding reserved
-  reserved_and a = rw a refl
-
-  module _ (a : same w (97 ∷ 110 ∷ 100 ∷ []) ≡ false) where
-    pub reserved_or : same w (111 ∷ 114 ∷ []) ≡ true → reserved w ≡ true
-    unfolding reserved
-    reserved_or b = rw (a, b) refl
-
-    module _ (b : same w (111 ∷ 114 ∷ []) ≡ false) where
-      pub reserved_at : same w (97 ∷ 116 ∷ []) ≡ true → reserved w ≡ true
-      unfolding reserved
-      reserved_at c = rw (a, b, c) refl
-
-      module _ (c : same w (97 ∷ 116 ∷ []) ≡ false) where
-        pub reserved_in : same w (105 ∷ 110 ∷ []) ≡ true → reserved w ≡ true
-        unfolding reserved
-        reserved_in d = rw (a, b, c, d) refl
-
-        pub reserved_p : same w (105 ∷ 110 ∷ []) ≡ false → reserved w ≡ same w (112 ∷ [])
-        unfolding reserved
-        reserved_p d = rw (a, b, c, d) (go (same w (112 ∷ [])))
-          where
-            go : (t : Bool) → (t || false) ≡ t
-            go true = refl
-            go false = refl
+pub reserved_is : (w : List ℕ) → ((((same w (97 ∷ 110 ∷ 100 ∷ []) || same w (111 ∷ 114 ∷ [])) || same w (97 ∷ 116 ∷ [])) || same w (105 ∷ 110 ∷ [])) || same w (112 ∷ [])) ≡ reserved w
+unfolding reserved
+reserved_is w = go (same w (97 ∷ 110 ∷ 100 ∷ [])) (same w (111 ∷ 114 ∷ [])) (same w (97 ∷ 116 ∷ [])) (same w (105 ∷ 110 ∷ [])) (same w (112 ∷ []))
+  where
+    go : (a b c d e : Bool) → ((((a || b) || c) || d) || e) ≡ (a || (b || (c || (d || (e || false)))))
+    go true b c d e = refl
+    go false true c d e = refl
+    go false false true d e = refl
+    go false false false true e = refl
+    go false false false false true = refl
+    go false false false false false = refl
 
 -- ---- names
 
@@ -73,28 +51,28 @@ name_other w h = rw h (go (begins_with letter w))
     go false = refl
 
 module _ {s : List ℕ} {i e : ℕ} (n : Ends letter_or_digit s i e) where
-  pub name_empty : e ≤ i → is_name (name_at s i) ≡ false
+  name_empty : e ≤ i → is_name (name_at s i) ≡ false
   name_empty h = rw (ends_none n h) name_none
 
-  pub name_long : 12 < e - i → is_name (name_at s i) ≡ false
-  unfolding is_name
-  name_long h = rw (lt-leb (length (name_at s i)) 12 (omega (arith, n.size))) (go (begins_with letter (name_at s i) && every letter_or_digit (name_at s i)))
+  name_some : i < e → is_name (name_at s i) ≡ ((leb (e - i) 12 && letter (get_or s i 0)) && not (reserved (name_at s i)))
+  unfolding is_name begins_with
+  name_some h =
+      let size : length (name_at s i) ≡ e - i = omega (arith, n.size) in
+      rw (lead_every letter_or_digit (drop i s), size, ends_front n h) (go (letter (get_or s i 0)) (leb (e - i) 12) (not (reserved (get_or s i 0 ∷ lead letter_or_digit (drop (i + 1) s)))))
     where
-      go : (t : Bool) → (t && false && not (reserved (name_at s i))) ≡ false
-      go true = refl
-      go false = refl
+      go : (a b c : Bool) → (((a && true) && b) && c) ≡ ((b && a) && c)
+      go true true c = refl
+      go true false c = refl
+      go false true c = refl
+      go false false c = refl
 
-  begins : i < e → begins_with letter (name_at s i) ≡ letter (get_or s i 0)
-  unfolding begins_with
-  begins h = rw (ends_front n h) refl
-
-  pub name_digit : i < e → letter (get_or s i 0) ≡ false → is_name (name_at s i) ≡ false
-  unfolding is_name
-  name_digit h q = rw (begins h, q) refl
-
-  pub name_rest : i < e → e - i ≤ 12 → letter (get_or s i 0) ≡ true → is_name (name_at s i) ≡ not (reserved (name_at s i))
-  unfolding is_name
-  name_rest h k q = rw (begins h, q, lead_every letter_or_digit (drop i s), le-leb (length (name_at s i)) 12 (omega (arith, n.size))) refl
+  -- the tests of `lines::is_name`
+  pub name_is : (((ltb i e && leb (e - i) 12) && letter (get_or s i 0)) && not (reserved (name_at s i))) ≡ is_name (name_at s i)
+  name_is = go (dec_le e i)
+    where
+      go : Dec (e ≤ i) → (((ltb i e && leb (e - i) 12) && letter (get_or s i 0)) && not (reserved (name_at s i))) ≡ is_name (name_at s i)
+      go (yes h) = rw (lt-leb (suc i) e (omega arith), name_empty h) refl
+      go (no h) = let k : i < e = omega arith in rw (le-leb (suc i) e (omega arith), name_some k) refl
 
 -- ---- rows
 

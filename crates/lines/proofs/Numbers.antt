@@ -4,16 +4,19 @@ use mathlib.Core.Path.{◌≡◌, refl, sym, ap, ◌∙◌, subst}
 use mathlib.Core.Logic.{◌⊎◌, inl, inr}
 use mathlib.Core.Bool.{Bool, true, false, ◌&&◌, ◌||◌}
 use mathlib.Core.List.{List, [], ◌∷◌}
-use Prim.Native.Nat.{ℕ, ◌+◌, ◌-◌, ◌*◌, ◌<◌, ◌≤◌}
+use Prim.Native.Nat.{ℕ, ◌+◌, ◌-◌, ◌*◌, ◌<◌, ◌≤◌, min}
+use native.Mathlib.Decide.{dec_le}
 use native.Mathlib.Omega.{arith}
 use borrow.Author.Tests.{leb-true}
 use lib.Dec.{leb}
-use lib.ListN.{get_or, drop}
+use Rattle.std.proofs.Common.{add-zero}
+use lib.ListN.{get_or, length, take, drop, length-drop}
+use lib.Seq.{length-take-le, get_or-take, get_or-drop}
 use Rattle.paper.specs.Bytes.{digit, lead, same}
 use Rattle.paper.specs.Lists.{every}
 use Rattle.paper.specs.Grammar.{is_number, value_on, value}
 use Rattle.lines.specs.Reading.{Ends, Capped}
-use Rattle.lines.proofs.Leads.{lead_every, ends_here, ends_front, ends_next, ends_none}
+use Rattle.lines.proofs.Leads.{lead_every, ends_here, ends_front, ends_next, ends_none, slice_length, slice_inside, slice_byte}
 
 -- ---- which are numbers
 
@@ -56,11 +59,12 @@ module _ {s : List ℕ} {i e : ℕ} (n : Ends digit s i e) where
 
 -- ---- values
 
-pub capped_low : {x : ℕ} → x < 4294967295 → Capped x x
-capped_low h = record { low = omega arith; is = inl refl }
-
-pub capped_high : {x : ℕ} → 4294967295 ≤ x → Capped x 4294967295
-capped_high h = record { low = omega arith; is = inr (refl, h) }
+capped_min : {x r : ℕ} → r ≡ min x 4294967295 → Capped x r
+capped_min {x} {r} h = record { low = omega arith; is = go (dec_le x 4294967295) }
+  where
+    go : Dec (x ≤ 4294967295) → (r ≡ x) ⊎ ((r ≡ 4294967295) × (r ≤ x))
+    go (yes k) = inl (omega arith)
+    go (no k) = inr (omega arith, omega arith)
 
 pub capped_step : {n m r : ℕ} (d : ℕ) → Capped n m → Capped (10 * m + d) r → Capped (10 * n + d) r
 capped_step {n} {m} {r} d a b = record { low = b.low; is = go a.is b.is }
@@ -78,9 +82,9 @@ pub record Valued (s : List ℕ) (i e j m : ℕ) : Type 0 where
   pub capped : Capped number m
   pub same : value (lead digit (drop i s)) ≡ value_on number (lead digit (drop j s))
 
-pub valued_start : {s : List ℕ} {i e : ℕ} → Ends digit s i e → Valued s i e i 0
+pub valued_start : {s : List ℕ} {i e : ℕ} → Ends digit s i e → Valued s i e (i + 0) 0
 unfolding value
-valued_start n = record { ends = n; number = 0; capped = record { low = omega arith; is = inl refl }; same = refl }
+valued_start n = rw add-zero record { ends = n; number = 0; capped = record { low = omega arith; is = inl refl }; same = refl }
 
 pub digit_low : (b : ℕ) → digit b ≡ true → 48 ≤ b
 unfolding digit
@@ -90,20 +94,26 @@ digit_low b h = leb-true 48 b (go (leb 48 b) (leb b 57) h)
     go true u e = refl
     go false u e = e
 
-module _ {s : List ℕ} {i e j m : ℕ} (v : Valued s i e j m) where
-  pub valued_digit : j < e → 48 ≤ get_or s j 0
-  valued_digit h = digit_low (get_or s j 0) (ends_here v.ends h)
+-- the digits as a slice: its byte k
+module _ {s : List ℕ} {i e k m : ℕ} (n : Ends digit s i e) (v : Valued s i e (i + k) m) where
+  module _ (h : k < length (take (e - i) (drop i s))) where
+    pub valued_digit : 48 ≤ get_or (take (e - i) (drop i s)) k 0
+    valued_digit = rw (slice_byte n h) (digit_low (get_or s (i + k) 0) (ends_here v.ends (slice_inside n h)))
 
-  pub valued_next : {x y r : ℕ} → j < e → x ≡ get_or s j 0 → y ≡ 10 * m + (x - 48) → Capped y r → Valued s i e (j + 1) r
-  valued_next {x} {y} {r} h p q c = record {
-    ends = ends_next v.ends h;
-    number = 10 * v.number + (get_or s j 0 - 48);
-    capped = capped_step (get_or s j 0 - 48) v.capped (subst (λ k. Capped (10 * m + (k - 48)) r) p (subst (λ k. Capped k r) q c));
-    same = v.same ∙ ap (value_on v.number) (ends_front v.ends h);
-  }
+    -- one digit more, in arithmetic that stays at 2^32 - 1
+    pub valued_next : {w d r : ℕ} → w ≡ min (m * 10) 4294967295 → d ≡ get_or (take (e - i) (drop i s)) k 0 - 48 → r ≡ min (w + d) 4294967295 → Valued s i e (i + (k + 1)) r
+    valued_next {w} {d} {r} p q c =
+        let digit : d ≡ get_or s (i + k) 0 - 48 = q ∙ ap (λ b. b - 48) (slice_byte n h) in
+        let place : i + k + 1 ≡ i + (k + 1) = omega arith in
+        subst (λ j. Valued s i e j r) place record {
+          ends = ends_next v.ends (slice_inside n h);
+          number = 10 * v.number + (get_or s (i + k) 0 - 48);
+          capped = capped_step (get_or s (i + k) 0 - 48) v.capped (capped_min (omega arith));
+          same = v.same ∙ ap (value_on v.number) (ends_front v.ends (slice_inside n h));
+        }
 
-  pub valued_end : e ≤ j → Capped (value (lead digit (drop i s))) m
-  valued_end h = subst (λ k. Capped k m) (sym (v.same ∙ ap (value_on v.number) (ends_none v.ends h))) v.capped
+  pub valued_end : length (take (e - i) (drop i s)) ≤ k → Capped (value (lead digit (drop i s))) m
+  valued_end h = subst (λ k. Capped k m) (sym (v.same ∙ ap (value_on v.number) (ends_none v.ends (omega (arith, slice_length n))))) v.capped
 
 -- THE LAW of capped numbers: they compare with any limit below 2^32 - 1 as the numbers do
 module _ {n r : ℕ} (c : Capped n r) where

@@ -5,13 +5,15 @@ use mathlib.Core.Bool.{Bool, true, false, cond, ◌&&◌, true≢false, false≢
 use mathlib.Core.List.{List, [], ◌∷◌, ◌++◌}
 use Prim.Native.Nat.{ℕ, zero, suc, ◌+◌, ◌-◌, ◌<◌, ◌≤◌}
 use native.Mathlib.Omega.{arith}
-use borrow.Author.Tests.{eqb-true, eqb-false, eq-eqb, ne_eqb}
+use borrow.Author.Tests.{ne_eqb}
 use lib.Dec.{eqb}
-use lib.ListN.{get_or, length, drop, length-drop, drop_of_length-le}
+use lib.ListN.{length, take, drop, length-drop}
+use lib.Pointwise.{pointwise}
+use Rattle.std.proofs.lemmas.List.{take_rest}
 use Rattle.paper.specs.Lists.{every}
 use Rattle.paper.specs.Bytes.{lead, past, starts, same, before, behind, onto, parts_on, parts}
 use Rattle.lines.specs.Reading.{Divides}
-use Rattle.lines.proofs.Leads.{past_first, drop_next}
+use Rattle.lines.proofs.Leads.{past_first}
 
 -- ---- begins with
 
@@ -42,55 +44,26 @@ starts_long (a ∷ w) (b ∷ l) h = go (eqb a b) h (starts_long w l)
 pub starts_room : (w s : List ℕ) (i : ℕ) → i ≤ length s → starts w (drop i s) ≡ true → i + length w ≤ length s
 starts_room w s i l h = let z = starts_long w (drop i s) h in omega (arith, simp length-drop at z)
 
-pub starts_begin : (w s : List ℕ) (i : ℕ) → starts w (drop i s) ≡ starts (drop 0 w) (drop (i + 0) s)
-starts_begin w s i = let z : i + 0 ≡ i = omega arith in rw z refl
-
-pub starts_lacks : (w s : List ℕ) (i : ℕ) → length s - i < length w → starts w (drop i s) ≡ false
-starts_lacks w s i h = starts_short w (drop i s) (simp length-drop h)
-
-pub starts_done : (w l : List ℕ) (j : ℕ) → length w ≤ j → starts (drop j w) l ≡ true
-starts_done w l j h = rw (drop_of_length-le w {i = j} h) (starts_all l)
-
 starts_other : (a b : ℕ) (w l : List ℕ) → (a ≡ b → ⊥) → starts (a ∷ w) (b ∷ l) ≡ false
 unfolding starts
 starts_other a b w l h = rw (ne_eqb a b h) refl
 
--- one byte of a word at a time, by places
-module _ (w s : List ℕ) (i j : ℕ) (lw : j < length w) (ls : i + j < length s) where
-  starts_at : starts (drop j w) (drop (i + j) s) ≡ (eqb (get_or w j 0) (get_or s (i + j) 0) && starts (drop (j + 1) w) (drop (i + j + 1) s))
-  unfolding starts
-  starts_at = rw (drop_next w j lw, drop_next s (i + j) ls) refl
-
-  pub starts_differ : (get_or w j 0 ≡ get_or s (i + j) 0 → ⊥) → starts (drop j w) (drop (i + j) s) ≡ false
-  starts_differ h = starts_at ∙ rw (ne_eqb (get_or w j 0) (get_or s (i + j) 0) h) refl
-
-  pub starts_next : get_or w j 0 ≡ get_or s (i + j) 0 → starts (drop j w) (drop (i + j) s) ≡ starts (drop (j + 1) w) (drop (i + (j + 1)) s)
-  starts_next h = let z : i + j + 1 ≡ i + (j + 1) = omega arith in starts_at ∙ rw (eq-eqb (get_or w j 0) (get_or s (i + j) 0) h, z) refl
-
--- a word and the front of as many bytes
-pub same_front : (m w r : List ℕ) → length m ≡ length w → same m w ≡ starts w (m ++ r)
-unfolding same starts
-same_front [] [] r h = refl
-same_front [] (b ∷ w) r h = absurd (omega arith)
-same_front (a ∷ m) [] r h = absurd (omega arith)
-same_front (a ∷ m) (b ∷ w) r h = go (same_front m w r (omega arith)) (eqb a b) refl (eqb b a) refl
+-- the library's tests of slices
+pub starts_is : (w s : List ℕ) (i : ℕ) → pointwise eqb w (take (length w) (take (length s - i) (drop i s))) ≡ starts w (drop i s)
+unfolding starts
+starts_is w s i = rw (take_rest s i) (go w (drop i s))
   where
-    go : same m w ≡ starts w (m ++ r) → (t : Bool) → eqb a b ≡ t → (u : Bool) → eqb b a ≡ u → (t && same m w) ≡ (u && starts w (m ++ r))
-    go e true p true q = e
-    go e false p false q = refl
-    go e true p false q = absurd (eqb-false b a q (sym (eqb-true a b p)))
-    go e false p true q = absurd (eqb-false a b p (sym (eqb-true b a q)))
+    go : (w l : List ℕ) → pointwise eqb w (take (length w) l) ≡ starts w l
+    go [] l = refl
+    go (a ∷ w) [] = refl
+    go (a ∷ w) (b ∷ l) = ap (λ t. eqb a b && t) (go w l)
 
-pub same_size : (m w : List ℕ) → (length m ≡ length w → ⊥) → same m w ≡ false
+pub same_is : (m w : List ℕ) → pointwise eqb m w ≡ same m w
 unfolding same
-same_size [] [] h = absurd (h refl)
-same_size [] (b ∷ w) h = refl
-same_size (a ∷ m) [] h = refl
-same_size (a ∷ m) (b ∷ w) h = go (same_size m w (λ e. h (ap suc e))) (eqb a b)
-  where
-    go : same m w ≡ false → (t : Bool) → (t && same m w) ≡ false
-    go e true = e
-    go e false = refl
+same_is [] [] = refl
+same_is [] (b ∷ w) = refl
+same_is (a ∷ m) [] = refl
+same_is (a ∷ m) (b ∷ w) = ap (λ t. eqb a b && t) (same_is m w)
 
 -- ---- before, behind and between
 

@@ -1,12 +1,12 @@
 -- What the functions that read lines answer. s is a text up to the end of a line, or a whole text; places are offsets in it.
 -- Assumes nothing.
-use Rattle.std.specs.Prelude.{◌≡◌, ◌⊎◌, Bool, true, false, List, [], ◌∷◌, ◌++◌, ℕ, ◌+◌, ◌<◌, ◌≤◌, length, drop, take}
+use Rattle.std.specs.Prelude.{◌≡◌, ◌⊎◌, Option, Some, None, Bool, true, false, List, [], ◌∷◌, ◌++◌, ℕ, ◌+◌, ◌<◌, ◌≤◌, length, drop, take}
 use Rattle.paper.specs.Bytes.{letter_or_digit, in_line, lead, past, parts}
 use Rattle.paper.specs.Grammar.{Line, bad, chance, equation, Connective, by_or, by_and, at_least, is_name, is_row, or_word, and_word, comma}
 use Rattle.paper.specs.Texts.{says, line_feed, lines_from}
 use Rattle.paper.specs.Spots.{places_of, places_in}
 use Rattle.lines.specs.declared.Kind.{Kind}
-use Rattle.lines.specs.declared.Kind.TheVariants.{Bad, Chance, Or, And, AtLeast}
+use Rattle.lines.specs.declared.Kind.TheVariants.{Chance, Or, And, AtLeast}
 
 -- THE NAME at a place: the letters and digits from there on
 abbrev pub name_at : List ℕ → ℕ → List ℕ
@@ -50,15 +50,15 @@ pub record Counted (s : List ℕ) (L : Line) (x : List ℕ) (at k i : ℕ) : Typ
   pub joined : Joined s L x at (at_least number) comma i
 
 -- WHAT IS READ of a line that says L and begins at `at`: x is its left name
-abbrev pub Reads : List ℕ → Line → List ℕ → ℕ → Kind → Type 0
-Reads s L x at Bad = L ≡ bad
-Reads s L x at (Chance v) = Given s L at v
-Reads s L x at (Or i) = Joined s L x at by_or or_word i
-Reads s L x at (And i) = Joined s L x at by_and and_word i
-Reads s L x at (AtLeast k i) = Counted s L x at k i
+abbrev pub Reads : List ℕ → Line → List ℕ → ℕ → Option Kind → Type 0
+Reads s L x at None = L ≡ bad
+Reads s L x at (Some (Chance v)) = Given s L at v
+Reads s L x at (Some (Or i)) = Joined s L x at by_or or_word i
+Reads s L x at (Some (And i)) = Joined s L x at by_and and_word i
+Reads s L x at (Some (AtLeast k i)) = Counted s L x at k i
 
 -- a line of a text: what it says, how it is read, where it stops, where its names stand, and where the next one begins
-pub record ReadsAt (text : List ℕ) (at : ℕ) (kind : Kind) (stop next : ℕ) : Type 0 where
+pub record ReadsAt (text : List ℕ) (at : ℕ) (kind : Option Kind) (stop next : ℕ) : Type 0 where
   pub line : Line
   pub after : at < next
   pub inside : next ≤ length text

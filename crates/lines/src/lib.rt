@@ -2,65 +2,25 @@
 #![tactic(auto)]
 
 ghost use Rattle.std.specs.Prelude.{◌≡◌, true, ◌+◌, ◌<◌, ◌≤◌, length, drop};
-ghost use Rattle.paper.specs.Bytes.{letter as isLetter, digit as isDigit, letter_or_digit, in_line, lead, starts as starts_with, same};
-ghost use Rattle.paper.specs.Grammar.{reserved as isReserved, is_name, is_number, value as value_of, is_row, counted_of, right_of, chance_of, line_of};
+ghost use Rattle.paper.specs.Bytes.{digit, letter_or_digit, in_line, lead, starts as starts_with, same};
+ghost use Rattle.paper.specs.Grammar.{reserved, is_name, is_number, value as value_of, is_row, counted_of, right_of, chance_of, line_of};
 ghost use Rattle.lines.specs.Reading.{name_at, Ends, Divides, Capped, Reads, ReadsAt, Steps};
 
-// What a line says: nothing in the grammar; a chance; or an equation, with the place of its first right name. A number is capped at 2^32 - 1.
+// What a line says: a chance, or an equation, with the place of its first right name. A number is capped at 2^32 - 1.
 #[derive(Clone, Copy)]
 pub enum Kind {
-    Bad,
     Chance(u32),
     Or(usize),
     And(usize),
     AtLeast(u32, usize),
 }
 
-// A line, the place of its line feed or the text's end, and the place of the next line.
+// A line, or none in the grammar; the place of its line feed or the text's end; and the place of the next line.
 #[derive(Clone, Copy)]
 pub struct Read {
-    pub kind: Kind,
+    pub kind: Option<Kind>,
     pub stop: usize,
     pub next: usize,
-}
-
-pub fn wide(x: u8) -> u64
-    ensures { result ≡ x }
-{
-    x as u64
-}
-
-fn is_letter(b: u8) -> bool
-    ensures { result ≡ isLetter b }
-{
-    if b < 65 {
-        return false;
-    }
-    if b <= 90 {
-        return true;
-    }
-    if b < 97 {
-        return false;
-    }
-    b <= 122
-}
-
-fn is_digit(b: u8) -> bool
-    ensures { result ≡ isDigit b }
-{
-    if b < 48 {
-        return false;
-    }
-    b <= 57
-}
-
-fn is_letter_or_digit(b: u8) -> bool
-    ensures { result ≡ letter_or_digit b }
-{
-    if is_letter(b) {
-        return true;
-    }
-    is_digit(b)
 }
 
 // Where the letters and digits from `i` on end.
@@ -68,29 +28,18 @@ pub fn name_end(s: &[u8], i: usize) -> usize
     requires { i ≤ length s.now }
     ensures { Ends letter_or_digit s.now i result }
 {
-    let mut e = i;
-    while e < s.len() {
-        if !is_letter_or_digit(s[e]) {
-            return e;
-        }
-        e += 1;
-    }
-    e
+    i + s[i..]
+        .iter()
+        .take_while(|b| b.is_ascii_alphanumeric())
+        .count()
 }
 
 // Where the digits from `i` on end.
 pub fn digits_end(s: &[u8], i: usize) -> usize
     requires { i ≤ length s.now }
-    ensures { Ends isDigit s.now i result }
+    ensures { Ends digit s.now i result }
 {
-    let mut e = i;
-    while e < s.len() {
-        if !is_digit(s[e]) {
-            return e;
-        }
-        e += 1;
-    }
-    e
+    i + s[i..].iter().take_while(|b| b.is_ascii_digit()).count()
 }
 
 // Where the line that `i` is in ends: its line feed, or the text's end.
@@ -98,14 +47,7 @@ pub fn line_end(s: &[u8], i: usize) -> usize
     requires { i ≤ length s.now }
     ensures { Ends in_line s.now i result }
 {
-    let mut e = i;
-    while e < s.len() {
-        if s[e] == 10 {
-            return e;
-        }
-        e += 1;
-    }
-    e
+    i + s[i..].iter().take_while(|b| **b != b'\n').count()
 }
 
 // Whether `w` stands at `i`.
@@ -113,17 +55,7 @@ pub fn starts(s: &[u8], i: usize, w: &[u8]) -> bool
     requires { i ≤ length s.now }
     ensures { result ≡ starts_with w.now (drop i s.now) }
 {
-    if s.len() - i < w.len() {
-        return false;
-    }
-    let mut j = 0;
-    while j < w.len() {
-        if w[j] != s[i + j] {
-            return false;
-        }
-        j += 1;
-    }
-    true
+    s[i..].starts_with(w)
 }
 
 // Whether the letters and digits from `i` to `e` are the word.
@@ -131,30 +63,19 @@ pub fn is_word(s: &[u8], i: usize, e: usize, w: &[u8]) -> bool
     requires { Ends letter_or_digit s.now i e }
     ensures { result ≡ same (name_at s.now i) w.now }
 {
-    if e - i != w.len() {
-        return false;
-    }
-    starts(s, i, w)
+    &s[i..e] == w
 }
 
 // Whether they are a word that is no name.
 fn is_reserved(s: &[u8], i: usize, e: usize) -> bool
     requires { Ends letter_or_digit s.now i e }
-    ensures { result ≡ isReserved (name_at s.now i) }
+    ensures { result ≡ reserved (name_at s.now i) }
 {
-    if is_word(s, i, e, b"and") {
-        return true;
-    }
-    if is_word(s, i, e, b"or") {
-        return true;
-    }
-    if is_word(s, i, e, b"at") {
-        return true;
-    }
-    if is_word(s, i, e, b"in") {
-        return true;
-    }
-    is_word(s, i, e, b"p")
+    is_word(s, i, e, b"and")
+        || is_word(s, i, e, b"or")
+        || is_word(s, i, e, b"at")
+        || is_word(s, i, e, b"in")
+        || is_word(s, i, e, b"p")
 }
 
 // Whether they are a name.
@@ -162,57 +83,27 @@ pub fn is_name(s: &[u8], i: usize, e: usize) -> bool
     requires { Ends letter_or_digit s.now i e }
     ensures { result ≡ is_name (name_at s.now i) }
 {
-    if i == e {
-        return false;
-    }
-    if 12 < e - i {
-        return false;
-    }
-    if !is_letter(s[i]) {
-        return false;
-    }
-    if is_reserved(s, i, e) {
-        return false;
-    }
-    true
+    i < e && e - i <= 12 && s[i].is_ascii_alphabetic() && !is_reserved(s, i, e)
 }
 
 // Whether the digits from `i` to `e` are a number.
 pub fn is_number(s: &[u8], i: usize, e: usize) -> bool
-    requires { Ends isDigit s.now i e }
-    ensures { result ≡ is_number (lead isDigit (drop i s.now)) }
+    requires { Ends digit s.now i e }
+    ensures { result ≡ is_number (lead digit (drop i s.now)) }
 {
-    if i == e {
-        return false;
-    }
-    if e - i == 1 {
-        return true;
-    }
-    49 <= s[i]
-}
-
-// A number capped at 2^32 - 1.
-fn capped(x: u64) -> u64
-    ensures { Capped x result }
-{
-    if x < 4294967295 {
-        return x;
-    }
-    4294967295
+    e - i == 1 || (i < e && b'1' <= s[i])
 }
 
 // The value of the digits from `i` to `e`, capped at 2^32 - 1.
 pub fn value(s: &[u8], i: usize, e: usize) -> u32
-    requires { Ends isDigit s.now i e }
-    ensures { Capped (value_of (lead isDigit (drop i s.now))) result }
+    requires { Ends digit s.now i e }
+    ensures { Capped (value_of (lead digit (drop i s.now))) result }
 {
-    let mut n: u64 = 0;
-    let mut j = i;
-    while j < e {
-        n = capped(10 * n + (wide(s[j]) - 48));
-        j += 1;
+    let mut n: u32 = 0;
+    for b in &s[i..e] {
+        n = n.saturating_mul(10).saturating_add(u32::from(*b - b'0'));
     }
-    n as u32
+    n
 }
 
 // Whether names stand from `i` to the end, with `sep` between each and the next.
@@ -252,52 +143,50 @@ pub fn next_name(s: &[u8], i: usize, sep: &[u8]) -> usize
 }
 
 // The line `p c 5000` that begins at `at`.
-fn chance(s: &[u8], at: usize) -> Kind
+fn chance(s: &[u8], at: usize) -> Option<Kind>
     requires { at + 2 ≤ length s.now }
     ensures { Reads s.now (chance_of (drop (at + 2) s.now)) (name_at s.now at) at result }
 {
     let i = at + 2;
     let e = name_end(s, i);
     if !is_name(s, i, e) {
-        return Kind::Bad;
+        return None;
     }
     if !starts(s, e, b" ") {
-        return Kind::Bad;
+        return None;
     }
     let j = e + 1;
     let d = digits_end(s, j);
     if d < s.len() {
-        return Kind::Bad;
+        return None;
     }
     if !is_number(s, j, d) {
-        return Kind::Bad;
+        return None;
     }
-    let v = value(s, j, d);
-    Kind::Chance(v)
+    Some(Kind::Chance(value(s, j, d)))
 }
 
 // The right side of an equation from its number on, `k in u, v`.
-fn counted(s: &[u8], at: usize, i: usize) -> Kind
+fn counted(s: &[u8], at: usize, i: usize) -> Option<Kind>
     requires { (at < i) × (i ≤ length s.now) }
     ensures { Reads s.now (counted_of (name_at s.now at) (drop i s.now)) (name_at s.now at) at result }
 {
     let d = digits_end(s, i);
     if !is_number(s, i, d) {
-        return Kind::Bad;
+        return None;
     }
     if !starts(s, d, b" in ") {
-        return Kind::Bad;
+        return None;
     }
     let j = d + 4;
     if !row(s, j, b", ") {
-        return Kind::Bad;
+        return None;
     }
-    let k = value(s, i, d);
-    Kind::AtLeast(k, j)
+    Some(Kind::AtLeast(value(s, i, d), j))
 }
 
 // The right side, from `i` on, of the equation that begins at `at`.
-fn right(s: &[u8], at: usize, i: usize) -> Kind
+fn right(s: &[u8], at: usize, i: usize) -> Option<Kind>
     requires { (at < i) × (i ≤ length s.now) }
     ensures { Reads s.now (right_of (name_at s.now at) (drop i s.now)) (name_at s.now at) at result }
 {
@@ -306,16 +195,16 @@ fn right(s: &[u8], at: usize, i: usize) -> Kind
         return counted(s, at, j);
     }
     if row(s, i, b" or ") {
-        return Kind::Or(i);
+        return Some(Kind::Or(i));
     }
     if row(s, i, b" and ") {
-        return Kind::And(i);
+        return Some(Kind::And(i));
     }
-    Kind::Bad
+    None
 }
 
 // What the line from `at` to the end of `s` says.
-pub fn judge(s: &[u8], at: usize) -> Kind
+pub fn judge(s: &[u8], at: usize) -> Option<Kind>
     requires { at ≤ length s.now }
     ensures { Reads s.now (line_of (drop at s.now)) (name_at s.now at) at result }
 {
@@ -324,10 +213,10 @@ pub fn judge(s: &[u8], at: usize) -> Kind
     }
     let e = name_end(s, at);
     if !is_name(s, at, e) {
-        return Kind::Bad;
+        return None;
     }
     if !starts(s, e, b" = ") {
-        return Kind::Bad;
+        return None;
     }
     let i = e + 3;
     right(s, at, i)
@@ -341,15 +230,15 @@ pub fn line(text: &[u8], at: usize) -> Read
     let stop = line_end(text, at);
     if stop == text.len() {
         return Read {
-            kind: Kind::Bad,
-            stop: stop,
+            kind: None,
+            stop,
             next: stop,
         };
     }
     let kind = judge(&text[..stop], at);
     Read {
-        kind: kind,
-        stop: stop,
+        kind,
+        stop,
         next: stop + 1,
     }
 }

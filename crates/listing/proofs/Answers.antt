@@ -130,6 +130,10 @@ module _ {n : ℕ} {T : List ℕ} {c root : ℕ} (lent : Lent true n T c root) (
         end = subst (λ (U : Set). (finished ≡ true) ↔ NoneAfter (den T root) U) (sym last_is) ((λ t. some_left l (w.end.0 t)), λ none. w.end.1 (none_left l none));
       })
 
+-- a refusal's parts
+pub turned_down : (m : ℕ) → Refusal m m 0 0 0 (replicate words 0) false
+turned_down m = record { is = refl; no_place = refl; no_cut = refl; no_byte = refl; empty_set = refl; unfinished = refl }
+
 -- a refusal, as the code makes it
 refuse : {m : ℕ} (rm : List ℕ) {number place count used : ℕ} {last : List ℕ} {finished : Bool} → Refusal m number place count used last finished → Refused m rm rm number place count used last finished
 refuse rm r = record { is = r.is; no_place = r.no_place; no_cut = r.no_cut; no_byte = r.no_byte; empty_set = r.empty_set; unfinished = r.unfinished; kept = refl }

@@ -1,14 +1,15 @@
 -- The bytes of a path's cut, placed in a room.
 -- Assumes nothing.
-use mathlib.Core.Path.{◌≡◌, refl, sym, ap, ap₂, ◌∙◌, subst}
+use mathlib.Core.Path.{◌≡◌, sym, ap, ap₂, ◌∙◌, subst}
 use mathlib.Core.Bool.{Bool, true, false, cond}
-use mathlib.Core.List.{List, [], ◌∷◌, ◌++◌, append_assoc, append-nil}
+use mathlib.Core.List.{List, [], ◌∷◌, ◌++◌, append-nil}
 use Prim.Native.Nat.{ℕ, zero, suc, ◌+◌, ◌-◌, ◌≤◌}
 use native.Mathlib.Nat.{le_of_eq}
 use native.Mathlib.Omega.{arith}
 use lib.ListN.{length, take, drop, length-drop, length-take, drop_of_length-le}
 use lib.Seq.{take_all, drop-drop}
 use borrow.Rule.Slice.PartMut.{put_mid, mid_of, post_of, put_same}
+use Rattle.std.proofs.Common.{Option, Some, None}
 use Rattle.paper.specs.Limits.{limits}
 use Rattle.paper.specs.Lists.{keep, up_to}
 use Rattle.paper.specs.Sets.{Set}
@@ -46,8 +47,8 @@ module _ {n : ℕ} {T : List ℕ} {c : ℕ} {P : List ℕ} {d at : ℕ} (o : Ope
       let f = o.lent.few_events in
       ap (set_bytes (room ws)) k.is ∙ path_bytes o (room ws) (omega arith) ∙ sym (path_bytes o n (omega arith))
 
-  pub carries_placed : {R : List ℕ} {used r : ℕ} {R' : List ℕ} → Placed R used (set_bytes (room ws) (set_of ws)) r R' → Placed R used (set_bytes n (along T (take d P))) r R'
-  carries_placed {R} {used} {r} {R'} p = subst (λ (cut : List ℕ). Placed R used cut r R') carries_bytes p
+  pub carries_placed : (R : List ℕ) (used : ℕ) (r : Option ℕ) (R' : List ℕ) → Placed R used (set_bytes (room ws) (set_of ws)) r R' → Placed R used (set_bytes n (along T (take d P))) r R'
+  carries_placed R used r R' p = subst (λ (cut : List ℕ). Placed R used cut r R') carries_bytes p
 
 -- ---- placed behind the bytes already used
 
@@ -60,11 +61,13 @@ shape room used r cut part e =
     ap₂ (λ (x y : List ℕ). take used room ++ (x ++ y)) part' post ∙ ap (λ (x : List ℕ). take used room ++ x) (append-nil (cut ++ drop (used + r) room))
 
 -- what was laid at the front of that part is placed behind the bytes before it
-pub place : (room : List ℕ) (used : ℕ) (cut : List ℕ) {r : ℕ} {part : List ℕ} → used ≤ length room → Laid cut (mid_of used (length room - used) room) r part
+pub place : (room : List ℕ) (used : ℕ) (cut : List ℕ) (r : Option ℕ) (part : List ℕ) → used ≤ length room → Laid cut (mid_of used (length room - used) room) r part
     → Placed room used cut r (put_mid used (length room - used) room part)
-place room used cut {r} {part} u l =
+place room used cut None part u l =
     let long : length (mid_of used (length room - used) room) ≡ length room - used = simp (length-take, length-drop) (omega arith) in
-    record {
-      short = λ z. let s = l.short z in let h = s.0 in (omega arith, ap (put_mid used (length room - used) room) s.1 ∙ put_same used (length room - used) room);
-      placed = λ z. let p = l.laid z in let h = p.1 in (p.0, omega arith, shape room used r cut part p.2);
-    }
+    let h = l.0 in
+    (omega arith, ap (put_mid used (length room - used) room) l.1 ∙ put_same used (length room - used) room)
+place room used cut (Some r) part u l =
+    let long : length (mid_of used (length room - used) room) ≡ length room - used = simp (length-take, length-drop) (omega arith) in
+    let h = l.1 in
+    (l.0, omega arith, shape room used r cut part l.2)

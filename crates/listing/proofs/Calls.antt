@@ -1,21 +1,21 @@
 -- The listing call, cut by cut.
 -- Assumes nothing.
 use mathlib.Core.Path.{◌≡◌, refl, sym, ap, ap₂, ◌∙◌, subst}
-use mathlib.Core.Bool.{Bool, true, false, false≢true}
+use mathlib.Core.Bool.{Bool, true, false≢true}
 use mathlib.Core.List.{List, [], ◌∷◌, ◌++◌, append_assoc, append-nil}
 use Prim.Native.Nat.{ℕ, zero, suc, ◌+◌, ◌-◌, ◌≤◌, ◌<◌}
 use native.Mathlib.Omega.{arith}
 use lib.ListN.{length, take, drop, length-append, length-drop}
 use lib.Seq.{length-take-le, drop-drop, drop_at}
-use Rattle.paper.specs.Limits.{limits}
 use Rattle.paper.specs.Lists.{last_or}
-use Rattle.paper.specs.Sets.{Set, none, of_events}
+use Rattle.std.proofs.Common.{Some, None}
+use Rattle.paper.specs.Sets.{Set, of_events, members}
 use Rattle.paper.specs.Listing.{member_bytes, cut_bytes, set_bytes, sets_bytes}
 use Rattle.paper.proofs.Listing.{cut_long}
 use Rattle.algebra.proofs.Lists.{flat_append}
 use Rattle.sets.specs.Words.{set_of}
 use Rattle.sets.proofs.Bytes.{joined}
-use Rattle.walk.specs.Paths.{events_of, along, around, Open, left_of, Reached}
+use Rattle.walk.specs.Paths.{events_of, along, around, Open, Reached}
 use Rattle.walk.proofs.Paths.{around_one}
 use Rattle.listing.specs.Bytes.{Placed, Stand, SomeStand, LastRead}
 use Rattle.listing.specs.Answers.{Short}
@@ -52,25 +52,14 @@ pub record Last (room : List ℕ) (from used : ℕ) (S : Set) : Type 0 where
   pub stand : Stand room from (used - 1) events
   pub is : of_events events ≡ S
 
--- the sets left: none where no cut was found; else the first is that of the path, and some stand behind it
-pub record Next (T P : List ℕ) (found : Bool) (d : ℕ) (behind left : List Set) : Type 0 where
-  pub none_left : found ≡ false → left ≡ []
-  pub first : found ≡ true → left ≡ along T (take d P) ∷ behind
+-- the sets left at the path of a cut: its own is the first, and some stand behind it
+pub next_of : {n : ℕ} {T : List ℕ} {c : ℕ} {P : List ℕ} {d : ℕ} {l : List Set} → Reached n T c P d l → l ≡ along T (take d P) ∷ around T (take d P) []
+next_of {T = T} {P = P} {d = d} r = r.is ∙ around_one T (take d P) []
 
-pub next_of : {n : ℕ} {T : List ℕ} {c : ℕ} {P : List ℕ} {found : Bool} {d : ℕ} {l : List Set} → Reached n T c P found d l → Next T P found d (around T (take d P) []) l
-next_of {T = T} {P = P} {d = d} r = record {
-  none_left = λ e. r.is ∙ ap (λ (f : Bool). left_of f T P d) e;
-  first = λ e. r.is ∙ ap (λ (f : Bool). left_of f T P d) e ∙ around_one T (take d P) [];
-}
-
--- where the loop is: the cuts written, the last of them in the bytes from `from` on, and those left, the first of which is the path's
-pub record Run (n : ℕ) (T : List ℕ) (c : ℕ) (l behind : List Set) (base room₀ room P : List ℕ) (found : Bool) (d from used k : ℕ) : Type 0 where
+-- where the loop is: the cuts written, the last of them in the bytes from `from` on, and those left
+pub record Run (n : ℕ) (l left : List Set) (base room₀ room : List ℕ) (from used k : ℕ) : Type 0 where
   pub written : List Set
-  pub left : List Set
-  pub path : Open n T c P d 1
-  pub P-long : length P ≡ limits.events
   pub whole : l ≡ written ++ left
-  pub next : Next T P found d behind left
   pub count : k ≡ length written
   pub count_le : k ≤ used
   pub bytes_used : used ≡ length (sets_bytes n written)
@@ -80,14 +69,10 @@ pub record Run (n : ℕ) (T : List ℕ) (c : ℕ) (l behind : List Set) (base ro
   pub none : k ≡ 0 → used ≤ from
   pub last : 0 < k → (from < used) × Last room from used (last_or (set_of base) written)
 
-pub run_start : {n : ℕ} {T : List ℕ} {c : ℕ} {l behind : List Set} {P : List ℕ} {found : Bool} {d : ℕ} (base room₀ : List ℕ) → Open n T c P d 1 → Next T P found d behind l → length P ≡ limits.events → Run n T c l behind base room₀ room₀ P found d 0 0 0
-run_start {l = l} base room₀ o x q = record {
+pub run_start : (n : ℕ) (l : List Set) (base room₀ : List ℕ) → Run n l l base room₀ room₀ 0 0 0
+run_start n l base room₀ = record {
   written = [];
-  left = l;
-  path = o;
-  P-long = q;
   whole = refl;
-  next = x;
   count = refl;
   count_le = omega arith;
   bytes_used = refl;
@@ -98,7 +83,7 @@ run_start {l = l} base room₀ o x q = record {
   last = λ h. absurd (omega arith);
 }
 
-module _ {n : ℕ} {T : List ℕ} {c : ℕ} {l behind : List Set} {base room₀ room P : List ℕ} {found : Bool} {d from used k : ℕ} (r : Run n T c l behind base room₀ room P found d from used k) where
+module _ {n : ℕ} {l left : List Set} {base room₀ room : List ℕ} {from used k : ℕ} (r : Run n l left base room₀ room from used k) where
   pub run_long : length room ≡ length room₀
   run_long = let h = r.within in let u = r.bytes_used in ap length r.bytes ∙ simp (length-append, length-drop) (omega arith)
 
@@ -118,15 +103,14 @@ module _ {n : ℕ} {T : List ℕ} {c : ℕ} {l behind : List Set} {base room₀ 
       go (suc j) e = let h = r.last (omega arith) in s h.0 h.1.events h.1.stand ∙ h.1.is
 
   -- the loop ends: no cut is left
-  pub run_end : {last : List ℕ} {a b k' used' : ℕ} {last' : List ℕ} {fin : Bool} → found ≡ false → LastRead room from used base last
+  pub run_end : {last : List ℕ} {a b k' used' : ℕ} {last' : List ℕ} {fin : Bool} → left ≡ [] → LastRead room from used base last
       → (a ≡ 0) × (b ≡ 0) × (k' ≡ k) × (used' ≡ used) × (last' ≡ last) × (fin ≡ true) → Listing n l (set_of base) room₀ room a b k' used' last' fin
-  run_end {last} e q y =
-      let z : r.left ≡ [] = r.next.none_left e in
+  run_end {last} z q y =
       let u = r.bytes_used in
       let w = r.within in
       wrote (record {
         written = r.written;
-        left = r.left;
+        left = left;
         whole = r.whole;
         within = omega arith;
         full = λ S y p. absurd (nil_cons (sym z ∙ p));
@@ -140,21 +124,18 @@ module _ {n : ℕ} {T : List ℕ} {c : ℕ} {l behind : List Set} {base room₀ 
         end = (λ _. z, λ _. y.5);
       })
 
-  module _ (is : found ≡ true) where
-    first : r.left ≡ along T (take d P) ∷ behind
-    first = r.next.first is
-
+  module _ {U : Set} {behind : List Set} (first : left ≡ U ∷ behind) where
     -- the next cut does not fit
-    module _ {w : ℕ} {room' : List ℕ} (z : w ≡ 0) (pl : Placed room used (set_bytes n (along T (take d P))) w room') where
+    module _ {room' : List ℕ} (pl : Placed room used (set_bytes n U) None room') where
       pub short_inside : (from ≤ used) × (from < used → SomeStand room' from (used - 1))
-      short_inside = subst (λ (x : List ℕ). (from ≤ used) × (from < used → SomeStand x from (used - 1))) (sym (pl.short z).1) run_inside
+      short_inside = subst (λ (x : List ℕ). (from ≤ used) × (from < used → SomeStand x from (used - 1))) (sym pl.1) run_inside
 
       pub run_short : {last : List ℕ} {a b k' used' : ℕ} {last' : List ℕ} {fin : Bool} → LastRead room' from used base last
           → Stopped k used last a b k' used' last' fin → Listing n l (set_of base) room₀ room' a b k' used' last' fin
       run_short {last} {a} {b} {k'} {used'} {last'} {fin} q st = judge k refl
         where
-          long : length room < used + length (set_bytes n (along T (take d P)))
-          long = (pl.short z).0
+          long : length room < used + length (set_bytes n U)
+          long = pl.0
 
           judge : (j : ℕ) → k ≡ j → Listing n l (set_of base) room₀ room' a b k' used' last' fin
           judge zero e =
@@ -163,7 +144,7 @@ module _ {n : ℕ} {T : List ℕ} {c : ℕ} {l behind : List Set} {base room₀ 
               let no_byte : used ≡ 0 = r.bytes_used ∙ ap (λ (p : List Set). length (sets_bytes n p)) none_written in
               let lr = run_long in
               let lg = long in
-              let all : l ≡ along T (take d P) ∷ behind = r.whole ∙ ap (λ (p : List Set). p ++ r.left) none_written ∙ first in
+              let all : l ≡ U ∷ behind = r.whole ∙ ap (λ (p : List Set). p ++ left) none_written ∙ first in
               short (subst (Short n (length room₀)) (sym all) (omega arith)) (record {
                 is = f.is;
                 no_place = f.no_place;
@@ -171,7 +152,7 @@ module _ {n : ℕ} {T : List ℕ} {c : ℕ} {l behind : List Set} {base room₀ 
                 no_byte = f.no_byte;
                 empty_set = f.empty_set;
                 unfinished = f.unfinished;
-                kept = (pl.short z).1 ∙ r.bytes ∙ ap₂ (λ (p : List Set) (j : ℕ). sets_bytes n p ++ drop j room₀) none_written no_byte;
+                kept = pl.1 ∙ r.bytes ∙ ap₂ (λ (p : List Set) (j : ℕ). sets_bytes n p ++ drop j room₀) none_written no_byte;
               })
           judge (suc j) e =
               let h : 0 < k = omega arith in
@@ -182,40 +163,43 @@ module _ {n : ℕ} {T : List ℕ} {c : ℕ} {l behind : List Set} {base room₀ 
               let lg = long in
               wrote (record {
                 written = r.written;
-                left = r.left;
+                left = left;
                 whole = r.whole;
                 within = omega arith;
                 full = λ S x p.
-                    let same : length (set_bytes n (along T (take d P))) ≡ length (set_bytes n S) = ap (λ (U : Set). length (set_bytes n U)) (same_head (sym first ∙ p)) in
+                    let same : length (set_bytes n U) ≡ length (set_bytes n S) = ap (λ (V : Set). length (set_bytes n V)) (same_head (sym first ∙ p)) in
                     omega arith;
                 some = λ none. absurd (let a : length r.written ≡ 0 = ap length none in let b = r.count in omega arith);
                 is = y.0;
                 no_place = y.1;
                 cuts = y.2 ∙ r.count;
                 long = y.3 ∙ r.bytes_used;
-                bytes = (pl.short z).1 ∙ r.bytes ∙ ap (λ (j : ℕ). sets_bytes n r.written ++ drop j room₀) (sym y.3);
-                last_set = ap set_of y.4 ∙ run_last last (subst (λ (x : List ℕ). LastRead x from used base last) (pl.short z).1 q);
+                bytes = pl.1 ∙ r.bytes ∙ ap (λ (j : ℕ). sets_bytes n r.written ++ drop j room₀) (sym y.3);
+                last_set = ap set_of y.4 ∙ run_last last (subst (λ (x : List ℕ). LastRead x from used base last) pl.1 q);
                 end = (λ t. absurd (false≢true (sym y.5 ∙ t)), λ x. absurd (nil_cons (sym x ∙ first)));
               })
 
     -- it was written
-    module _ {w : ℕ} {room' : List ℕ} (z : 0 < w) (pl : Placed room used (set_bytes n (along T (take d P))) w room') where
+    module _ {w : ℕ} {room' : List ℕ} (pl : Placed room used (set_bytes n U) (Some w) room') where
+      some : 0 < w
+      some = let c = cut_long (members n U) in let p = pl.0 in omega arith
+
       pub run_fits : used + w ≤ length room₀
-      run_fits = let p = (pl.placed z).1 in let l = run_long in omega arith
+      run_fits = let p = pl.1 in let l = run_long in omega arith
 
       pub run_less : length room₀ - (used + w) < length room₀ - used
-      run_less = let p = run_fits in omega arith
+      run_less = let p = run_fits in let more = some in omega arith
 
-      -- the members of the cut stand where it was placed
-      stands : Last room' used (used + w) (along T (take d P))
+      -- the members of a path's cut stand where it was placed
+      stands : {T : List ℕ} {c : ℕ} {P : List ℕ} {d : ℕ} → Open n T c P d 1 → U ≡ along T (take d P) → Last room' used (used + w) U
       unfolding cut_bytes
-      stands =
-          let p = pl.placed z in
+      stands {T} {P = P} {d} o own =
+          let p = pl in let more = some in
           let w-is = p.0 in
           let fits = p.1 in
           let t = events_of T (take d P) in
           let back = (0x22 ∷ []) ++ drop (used + w) room in
-          let cut = path_bytes r.path n (omega arith) in
+          let cut = ap (set_bytes n) own ∙ path_bytes o n (omega arith) in
           let size : w ≡ length (member_bytes t) + 1 = w-is ∙ ap length cut ∙ cut_long t in
           let is : room' ≡ take used room ++ (member_bytes t ++ back) =
           p.2 ∙ ap (λ (x : List ℕ). take used room ++ (x ++ drop (used + w) room)) cut ∙ ap (λ (x : List ℕ). take used room ++ x) (append_assoc (member_bytes t) (0x22 ∷ []) (drop (used + w) room)) in
@@ -226,31 +210,24 @@ module _ {n : ℕ} {T : List ℕ} {c : ℕ} {l behind : List Set} {base room₀ 
           let long : length room' - used ≡ length (member_bytes t) + length back = sym (length-drop used room') ∙ ap length stand ∙ length-append (member_bytes t) back in
           record {
             events = t;
-            stand = record { bytes = stand ∙ ap (λ (x : List ℕ). member_bytes t ++ x) (sym rest); ends = ends; inside = omega arith; below = path_below r.path };
-            is = refl;
+            stand = record { bytes = stand ∙ ap (λ (x : List ℕ). member_bytes t ++ x) (sym rest); ends = ends; inside = omega arith; below = path_below o };
+            is = sym own;
           }
 
-      pub run_more : {P' : List ℕ} {found' : Bool} {d' : ℕ} {behind' : List Set} → Open n T c P' d' 1 → Next T P' found' d' behind' behind → length P' ≡ limits.events
-          → Run n T c l behind' base room₀ room' P' found' d' used (used + w) (k + 1)
-      run_more o x long' =
-          let p = pl.placed z in
-          let S = along T (take d P) in
-          let q = behind in
+      pub run_more : {T : List ℕ} {c : ℕ} {P : List ℕ} {d : ℕ} → Open n T c P d 1 → U ≡ along T (take d P) → Run n l behind base room₀ room' used (used + w) (k + 1)
+      run_more o is =
+          let p = pl in let more = some in
           let cl = r.count_le in
           let used_is : length (sets_bytes n r.written) ≡ used = sym r.bytes_used in
           record {
-            written = r.written ++ (S ∷ []);
-            left = q;
-            path = o;
-            P-long = long';
-            whole = r.whole ∙ ap (λ (x : List Set). r.written ++ x) first ∙ sym (append_assoc r.written (S ∷ []) q);
-            next = x;
-            count = ap (λ (n : ℕ). n + 1) r.count ∙ sym (length-append r.written (S ∷ []));
+            written = r.written ++ (U ∷ []);
+            whole = r.whole ∙ ap (λ (x : List Set). r.written ++ x) first ∙ sym (append_assoc r.written (U ∷ []) behind);
+            count = ap (λ (n : ℕ). n + 1) r.count ∙ sym (length-append r.written (U ∷ []));
             count_le = omega arith;
-            bytes_used = ap₂ ◌+◌ r.bytes_used p.0 ∙ sym (ap length (bytes_more n r.written S) ∙ length-append (sets_bytes n r.written) (set_bytes n S));
-            bytes = p.2 ∙ joined room (sets_bytes n r.written) (set_bytes n S) room₀ used w used_is r.bytes ∙ ap (λ (x : List ℕ). x ++ drop (used + w) room₀) (sym (bytes_more n r.written S));
+            bytes_used = ap₂ ◌+◌ r.bytes_used p.0 ∙ sym (ap length (bytes_more n r.written U) ∙ length-append (sets_bytes n r.written) (set_bytes n U));
+            bytes = p.2 ∙ joined room (sets_bytes n r.written) (set_bytes n U) room₀ used w used_is r.bytes ∙ ap (λ (x : List ℕ). x ++ drop (used + w) room₀) (sym (bytes_more n r.written U));
             within = run_fits;
             from_le = omega arith;
             none = λ h. absurd (omega arith);
-            last = λ _. (omega arith, subst (Last room' used (used + w)) (sym (last_more (set_of base) r.written S)) stands);
+            last = λ _. (omega arith, subst (Last room' used (used + w)) (sym (last_more (set_of base) r.written U)) (stands o is));
           }

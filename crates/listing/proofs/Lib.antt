@@ -3,6 +3,7 @@ pub mod Bytes
 pub mod ReadBack
 pub mod Beside
 pub mod Calls
+pub mod Standing
 pub mod Answers
 pub mod Once
 pub mod Join

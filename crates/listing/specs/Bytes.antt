@@ -1,15 +1,15 @@
 -- The bytes of a cut in a room.
 -- Assumes nothing.
-use Rattle.std.specs.Prelude.{◌≡◌, List, [], ◌∷◌, ◌++◌, ℕ, ◌+◌, ◌-◌, ◌≤◌, ◌<◌, length, take, drop}
+use Rattle.std.specs.Prelude.{◌≡◌, Option, Some, None, List, [], ◌∷◌, ◌++◌, ℕ, ◌+◌, ◌-◌, ◌≤◌, ◌<◌, length, take, drop}
 use Rattle.paper.specs.Limits.{limits}
 use Rattle.paper.specs.Sets.{of_events}
 use Rattle.paper.specs.Listing.{member, member_bytes}
 use Rattle.sets.specs.Words.{set_of}
 
--- the bytes of a cut were written behind the first `used` bytes of a room, r of them, where they fit; r is 0 where they do not
-pub record Placed (room : List ℕ) (used : ℕ) (cut : List ℕ) (r : ℕ) (room' : List ℕ) : Type 0 where
-  pub short : r ≡ 0 → (length room < used + length cut) × (room' ≡ room)
-  pub placed : 0 < r → (r ≡ length cut) × (used + r ≤ length room) × (room' ≡ take used room ++ (cut ++ drop (used + r) room))
+-- the bytes of a cut were written behind the first `used` bytes of a room, r of them, where they fit
+abbrev pub Placed : List ℕ → ℕ → List ℕ → Option ℕ → List ℕ → Type 0
+Placed room used cut None room' = (length room < used + length cut) × (room' ≡ room)
+Placed room used cut (Some r) room' = (r ≡ length cut) × (used + r ≤ length room) × (room' ≡ take used room ++ (cut ++ drop (used + r) room))
 
 -- each of these events is below n
 abbrev pub Below : ℕ → List ℕ → Type 0

@@ -3,3 +3,4 @@ pub mod Bytes
 pub mod Answers
 pub mod Calls
 pub mod Joined
+pub mod Results

@@ -32,48 +32,34 @@ pub struct Given {
     pub next: usize,
 }
 
-fn small(x: u8) -> usize
-    ensures { result ≤ 255 }
-{
-    x as usize
-}
-
-fn is_digit(x: u8) -> bool {
-    if x < 48 {
-        return false;
-    }
-    x < 58
-}
-
 // The place of the first digit from `from` on.
 fn skip(text: &[u8], from: usize) -> usize {
-    let mut at = from;
-    while at < text.len() {
-        if is_digit(text[at]) {
+    for at in from..text.len() {
+        if text[at].is_ascii_digit() {
             return at;
         }
-        at += 1;
     }
-    at
+    text.len()
 }
 
 // The next number; digits beyond the ninth do not count.
 fn number(text: &[u8], from: usize) -> Taken
     ensures { result.value ≤ 999999999 }
 {
-    let mut at = skip(text, from);
     let mut v = 0;
-    while at < text.len() {
+    for at in skip(text, from)..text.len() {
         let x = text[at];
-        if !is_digit(x) {
+        if !x.is_ascii_digit() {
             return Taken { value: v, next: at };
         }
         if v < 100000000 {
-            v = v * 10 + small(x) % 16 % 10;
+            v = v * 10 + usize::from(x - b'0');
         }
-        at += 1;
     }
-    Taken { value: v, next: at }
+    Taken {
+        value: v,
+        next: text.len(),
+    }
 }
 
 fn store(table: &mut [u32], i: usize, v: usize)
@@ -134,29 +120,15 @@ fn show_set(rt: &impl Print, set: &[u64]) -> io::Result<()>
 }
 
 fn show_bytes(rt: &impl Print, room: &[u8], used: usize) -> io::Result<()> {
-    for i in 0..room.len() {
-        if i < used {
-            print!(rt; "{:02x} ", room[i])?;
-        }
+    for x in room.iter().take(used) {
+        print!(rt; "{x:02x} ")?;
     }
     Ok(())
 }
 
-fn stays(x: u8) -> usize
-    ensures { result ≤ 1 }
-{
-    if x == FILL { 1 } else { 0 }
-}
-
 // How many of the bytes behind those used are as they were.
 fn kept(room: &[u8], used: usize) -> usize {
-    let mut k = 0;
-    let mut i = used;
-    while i < room.len() {
-        k += stays(room[i]);
-        i += 1;
-    }
-    k
+    room.iter().skip(used).filter(|x| **x == FILL).count()
 }
 
 // Makes the call and shows its answer.
@@ -170,17 +142,24 @@ fn answer(
     set: [u64; sets::WORDS],
     room: &mut [u8],
 ) -> io::Result<()> {
-    let r = listing::list(nodes, n, count, root, begin, set, room);
-    let used = r.used;
-    let last = r.last;
-    say(rt, small(r.number))?;
-    say(rt, r.count)?;
-    say(rt, used)?;
-    if r.finished {
-        say(rt, 1)?;
-    } else {
-        say(rt, 0)?;
+    let mut number = 0;
+    let mut cuts = 0;
+    let mut used = 0;
+    let mut last = sets::empty();
+    let mut finished = false;
+    match listing::list(nodes, n, count, root, begin, set, room) {
+        Ok(l) => {
+            cuts = l.count;
+            used = l.used;
+            last = l.last;
+            finished = l.finished;
+        }
+        Err(why) => number = why.number(),
     }
+    say(rt, usize::from(number))?;
+    say(rt, cuts)?;
+    say(rt, used)?;
+    say(rt, usize::from(finished))?;
     print!(rt; "| ")?;
     show_set(rt, &last)?;
     print!(rt; "| ")?;
@@ -226,7 +205,7 @@ fn run(rt: &impl Print, text: &[u8], from: usize) -> io::Result<usize> {
 fn run_all(rt: &impl Print, text: &[u8]) -> io::Result<()> {
     let calls = number(text, 0);
     let mut at = calls.next;
-    for j in 0..calls.value {
+    for _ in 0..calls.value {
         at = run(rt, text, at)?;
     }
     Ok(())

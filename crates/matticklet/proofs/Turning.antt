@@ -13,7 +13,7 @@ use Rattle.tables.specs.Table.{den}
 use Rattle.walk.specs.After.{to_list}
 use Rattle.memory.specs.Memory.{Memory}
 use Rattle.memory.specs.Outcome.{Done}
-use Rattle.memory.specs.declared.Analysis.{Analysis}
+use Rattle.memory.specs.Analysis.{Analysis}
 use Rattle.followup.specs.Rooms.{Next}
 use Rattle.followup.proofs.Rooms.{fewer}
 use Rattle.text.specs.Lines.{cut_line, cut_lines}

@@ -2,11 +2,15 @@
 #![tactic(auto)]
 
 ghost use Rattle.std.specs.Io.{ReadsAtMost};
-ghost use Rattle.text.specs.Lines.{refusal as refusalText, head as headText, top as top_text};
+ghost use Rattle.text.specs.Lines.{refusal, head, top};
 ghost use Rattle.text.specs.Places.{Front};
+ghost use Rattle.std.specs.Prelude.{Ok};
+ghost use Rattle.paper.specs.Refusals.{number};
+ghost use Rattle.memory.specs.Analysis.{analysis_of};
 ghost use Rattle.followup.specs.Tops.{Priced, low_of, high_of, Held};
 
-use memory::Analysis;
+use memory::Tables;
+use paper::refusal::Refused;
 use records::Tree;
 use std::io;
 use std::io::Read;
@@ -20,27 +24,27 @@ const AREA: usize = 4098;
 
 const MEMO: usize = 65536;
 
-// The line of a refusal: the number and place of the analysis.
-fn refusal_of(line: &mut [u8; text::ROOM], a: Analysis) -> usize
-    ensures { Front result line.new (refusalText a.number a.place) }
+// The line of a refusal: its number and its place.
+fn refusal_of(line: &mut [u8; text::ROOM], r: Refused) -> usize
+    ensures { Front result line.new (refusal (number r.why) r.place) }
 {
-    text::refusal(line, a.number, a.place)
+    text::refusal(line, r.why.number(), r.place)
 }
 
-fn say_refusal(rt: &impl Print, a: Analysis) -> io::Result<()> {
+fn say_refusal(rt: &impl Print, r: Refused) -> io::Result<()> {
     let mut line = [0u8; text::ROOM];
-    let n = refusal_of(&mut line, a);
+    let n = refusal_of(&mut line, r);
     rt.write_all(&line[..n])
 }
 
 // The lines before the cuts: the tree's counts, and the nodes of the whole table.
-fn head_of(lines: &mut [u8; text::ROOM], tree: Tree, a: Analysis) -> usize
-    ensures { Front result lines.new (headText tree.event_count tree.gate_count a.nodes) }
+fn head_of(lines: &mut [u8; text::ROOM], tree: Tree, a: Tables) -> usize
+    ensures { Front result lines.new (head tree.event_count tree.gate_count a.nodes) }
 {
     text::head(lines, tree.event_count, tree.gate_count, a.nodes)
 }
 
-fn say_head(rt: &impl Print, tree: Tree, a: Analysis) -> io::Result<()> {
+fn say_head(rt: &impl Print, tree: Tree, a: Tables) -> io::Result<()> {
     let mut lines = [0u8; text::ROOM];
     let n = head_of(&mut lines, tree, a);
     rt.write_all(&lines[..n])
@@ -50,13 +54,13 @@ fn say_head(rt: &impl Print, tree: Tree, a: Analysis) -> io::Result<()> {
 fn top_of(
     line: &mut [u8; text::ROOM],
     tree: Tree,
-    a: Analysis,
+    a: Tables,
     nodes: &[u32; TABLE],
     lows: &mut [u32; AREA],
     highs: &mut [u32; AREA],
 ) -> usize
     requires { Priced tree nodes.now a.nodes a.root }
-    ensures { Front result line.new (top_text (low_of tree nodes.now a.root) (high_of tree nodes.now a.root)) }
+    ensures { Front result line.new (top (low_of tree nodes.now a.root) (high_of tree nodes.now a.root)) }
 {
     let ends = followup::top(tree, nodes, a.nodes, a.root, lows, highs);
     text::top(line, ends.low, ends.high)
@@ -65,7 +69,7 @@ fn top_of(
 fn say_top(
     rt: &impl Print,
     tree: Tree,
-    a: Analysis,
+    a: Tables,
     nodes: &[u32; TABLE],
     lows: &mut [u32; AREA],
     highs: &mut [u32; AREA],
@@ -81,13 +85,13 @@ fn say_top(
 fn report(
     rt: &impl Print,
     tree: Tree,
-    a: Analysis,
+    a: Tables,
     nodes: &[u32; TABLE],
     cuts: &[u32; TABLE],
     lows: &mut [u32; AREA],
     highs: &mut [u32; AREA],
 ) -> io::Result<()>
-    requires { Held tree nodes.now cuts.now a }
+    requires { Held tree nodes.now cuts.now (analysis_of (Ok a)) }
 {
     say_head(rt, tree, a)?;
     pages::say_cuts(rt, cuts, tree.event_count, a.cut_nodes, a.cut_root)?;
@@ -105,19 +109,21 @@ fn answer(rt: &impl Print, bytes: &[u8]) -> io::Result<()> {
     let mut next = [0u32; AREA];
     let mut marks = [0u32; AREA];
     let mut own = [0u32; AREA];
-    let a = analyser::analyse(
+    let a = match analyser::analyse(
         bytes, &mut nodes, &mut cuts, &mut gates, &mut added, &mut memo, &mut heads, &mut next,
         &mut marks, &mut own,
-    );
-    if a.number != 0 {
-        return say_refusal(rt, a);
-    }
-    let r = analyser::read(bytes);
-    let tree = r.tree;
+    ) {
+        Ok(a) => a,
+        Err(refused) => return say_refusal(rt, refused),
+    };
+    let Ok(tree) = analyser::read(bytes) else {
+        unreachable!()
+    };
     report(rt, tree, a, &nodes, &cuts, &mut heads, &mut next)
 }
 
 // Reads until the buffer is full or the input ends: how many bytes it put at the buffer's start.
+// In each program: no crate that the programs share reads input.
 fn fill(input: &mut impl Read, buffer: &mut [u8]) -> io::Result<usize>
     ensures { ReadsAtMost result buffer.new }
 {

@@ -8,7 +8,7 @@ use lib.ListN.{length, replicate}
 use Rattle.paper.specs.Trees.{Tree}
 use Rattle.memory.specs.Memory.{Memory, Zero, AllZero, Lengths}
 use Rattle.memory.specs.Outcome.{Done}
-use Rattle.memory.specs.declared.Analysis.{Analysis}
+use Rattle.memory.specs.Analysis.{Analysis}
 
 pub record SameLengths (m k : Memory) : Type 0 where
   pub nodes : length k.nodes ≡ length m.nodes

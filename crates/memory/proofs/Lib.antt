@@ -1,2 +1,3 @@
 -- Memory that has the same lengths.
 pub mod Before
+pub mod Refusing

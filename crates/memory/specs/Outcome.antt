@@ -14,7 +14,7 @@ use Rattle.tables.specs.Table.{den}
 use Rattle.tables.specs.Stored.{Unique, ZeroBehind}
 use Rattle.tables.specs.Lent.{Lent}
 use Rattle.memory.specs.Memory.{Memory, Zero}
-use Rattle.memory.specs.declared.Analysis.{Analysis}
+use Rattle.memory.specs.Analysis.{Analysis}
 
 -- a number and its place; counts and roots are 0
 pub record Refused (v : Verdict) (a : Analysis) : Type 0 where

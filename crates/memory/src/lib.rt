@@ -1,34 +1,17 @@
-// What an analysis is lent, and what it answers.
+// What an analysis is lent, and what it answers where it is done.
 #![tactic(auto)]
 
 ghost use Rattle.memory.specs.Memory.{memory, AllZero, Settled};
-ghost use Rattle.memory.specs.Outcome.{Refused, at};
 
 use tables::clear;
 
-// What an analysis answers: its number and place, the counts of both tables and both roots.
-#[derive(Clone, Copy)]
-pub struct Analysis {
-    pub number: u8,
-    pub place: usize,
+// What a done analysis answers: the counts of both tables and both roots.
+#[derive(Clone, Copy, Debug, PartialEq, Eq)]
+pub struct Tables {
     pub nodes: usize,
     pub cut_nodes: usize,
     pub root: usize,
     pub cut_root: usize,
-}
-
-// A refusal: all but its number and place is zero.
-pub fn refused(number: u8, place: usize) -> Analysis
-    ensures { Refused (at number place) result }
-{
-    Analysis {
-        number,
-        place,
-        nodes: 0,
-        cut_nodes: 0,
-        root: 0,
-        cut_root: 0,
-    }
 }
 
 // All that was lent becomes zero, to the last number.

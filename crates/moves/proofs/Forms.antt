@@ -1,6 +1,6 @@
 -- A lawful tree in the other form is lawful, and its bytes are accepted.
 -- Assumes nothing.
-use mathlib.Core.Path.{◌≡◌, refl, sym, ap, ◌∙◌}
+use mathlib.Core.Path.{◌≡◌, refl}
 use mathlib.Core.Bool.{Bool, true, false}
 use mathlib.Core.List.{List}
 use Prim.Native.Nat.{ℕ, zero, suc, ◌+◌, ◌≤◌, ◌<◌}
@@ -8,14 +8,13 @@ use native.Mathlib.Omega.{arith}
 use lib.ListN.{length, get_or}
 use lib.Dec.{ltb, eqb}
 use borrow.Author.Tests.{ltb-true, ltb-false, eqb-true, eqb-false}
+use Rattle.std.specs.Prelude.{Some, None}
 use Rattle.paper.specs.Limits.{limits}
 use Rattle.rules.proofs.Cases.{either}
 use Rattle.records.specs.Judge.{Book, accept, outcome}
 use Rattle.records.specs.Memory.{pad, no_event, memory}
 use Rattle.records.specs.Trees.{Lawful}
 use Rattle.records.specs.declared.Event.{Event}
-use Rattle.records.specs.declared.uses.Found.{Found}
-use Rattle.records.specs.declared.uses.Found.TheVariants.{At, Nothing}
 use Rattle.records.proofs.Pad.{pad_get_d}
 use Rattle.judging.specs.Bytes.{bytes_of}
 use Rattle.writing.specs.Sites.{lowest_sited}
@@ -33,16 +32,16 @@ abbrev pub Siteless : List Event → ℕ → ℕ → Type 0
 Siteless events i n = (e : ℕ) → i ≤ e → e < i + n → (get_or events e no_event).site ≡ 0
 
 module _ (events : List Event) where
-  none_step : (n i : ℕ) → lowest_sited (suc n) i events ≡ Nothing → ((get_or events i no_event).site ≡ 0) × (lowest_sited n (i + 1) events ≡ Nothing)
+  none_step : (n i : ℕ) → lowest_sited (suc n) i events ≡ None → ((get_or events i no_event).site ≡ 0) × (lowest_sited n (i + 1) events ≡ None)
   unfolding lowest_sited
   none_step n i e = go (eqb (get_or events i no_event).site 0) refl
     where
-      go : (t : Bool) → eqb (get_or events i no_event).site 0 ≡ t → ((get_or events i no_event).site ≡ 0) × (lowest_sited n (i + 1) events ≡ Nothing)
+      go : (t : Bool) → eqb (get_or events i no_event).site 0 ≡ t → ((get_or events i no_event).site ≡ 0) × (lowest_sited n (i + 1) events ≡ None)
       go true q = (eqb-true (get_or events i no_event).site 0 q, rw (q, lowest_sited) at e)
-      go false q = let d : At i ≡ Nothing = rw (q, lowest_sited) at e in let z : ◌≡◌ {A = ℕ} 0 1 = cc in absurd (omega arith)
+      go false q = let d : Some i ≡ None = rw (q, lowest_sited) at e in let z : ◌≡◌ {A = ℕ} 0 1 = cc in absurd (omega arith)
 
   -- where none is found, none is there
-  pub found_none : (n i : ℕ) → lowest_sited n i events ≡ Nothing → Siteless events i n
+  pub found_none : (n i : ℕ) → lowest_sited n i events ≡ None → Siteless events i n
   found_none zero i e x low high = absurd (omega arith)
   found_none (suc n) i e x low high =
       let (here, on) = none_step n i e in
@@ -57,12 +56,12 @@ module _ (events : List Event) where
     pub sited : (get_or events e no_event).site ≡ 0 → ⊥
     pub before : (x : ℕ) → i ≤ x → x < e → (get_or events x no_event).site ≡ 0
 
-  pub found_first : (n i e : ℕ) → lowest_sited n i events ≡ At e → First i n e
+  pub found_first : (n i e : ℕ) → lowest_sited n i events ≡ Some e → First i n e
   unfolding lowest_sited
   found_first zero i e q = let z : ◌≡◌ {A = ℕ} 0 1 = cc in absurd (omega arith)
   found_first (suc n) i e q = go (eqb (get_or events i no_event).site 0) refl (found_first n (i + 1) e)
     where
-      go : (t : Bool) → eqb (get_or events i no_event).site 0 ≡ t → (lowest_sited n (i + 1) events ≡ At e → First (i + 1) n e) → First i (suc n) e
+      go : (t : Bool) → eqb (get_or events i no_event).site 0 ≡ t → (lowest_sited n (i + 1) events ≡ Some e → First (i + 1) n e) → First i (suc n) e
       go true h on =
           let f = on (rw (h, lowest_sited) at q) in
           record {
@@ -74,7 +73,7 @@ module _ (events : List Event) where
                 (λ p. let same : x ≡ i = omega (arith, ltb-false i x p) in rw same (eqb-true (get_or events i no_event).site 0 h));
           }
       go false h on =
-          let d : At i ≡ At e = rw (h, lowest_sited) at q in
+          let d : Some i ≡ Some e = rw (h, lowest_sited) at q in
           let same : e ≡ i = cc in
           record {
             low = omega arith;

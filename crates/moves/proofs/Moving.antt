@@ -6,22 +6,18 @@ use mathlib.Core.List.{List}
 use Prim.Native.Nat.{ℕ, ◌*◌, ◌≤◌}
 use native.Mathlib.Omega.{arith}
 use lib.ListN.{length}
+use Rattle.std.specs.Prelude.{Some, None, Ok, Err}
 use Rattle.paper.specs.Limits.{limits}
-use Rattle.rules.specs.Answers.{verdict}
 use Rattle.rules.specs.Format.{length_of}
-use Rattle.records.specs.Judge.{Book, Outcome, accept, refuse, outcome}
+use Rattle.records.specs.Judge.{Book, outcome}
 use Rattle.records.specs.Memory.{memory, in_memory}
-use Rattle.records.specs.Trees.{Lawful}
 use Rattle.writing.specs.Sites.{lowest_sited}
 use Rattle.writing.specs.Writes.{Wrote, wrote, write_of}
-use Rattle.writing.proofs.Writing.{done_is}
-use Rattle.rules.specs.declared.Answer.{Answer}
-use Rattle.rules.specs.declared.Answer.TheVariants.{Done, Sited}
-use Rattle.records.specs.declared.Reading.{Reading}
+use Rattle.rules.specs.declared.Refusal.{Refusal}
+use Rattle.rules.specs.declared.Refusal.TheVariants.{Sited}
 use Rattle.records.specs.declared.Tree.{Tree}
-use Rattle.records.specs.declared.uses.Found.TheVariants.{At, Nothing}
-use Rattle.trees.proofs.Promises.{Good, done_is_good}
-use Rattle.moves.specs.Moves.{in_form, moved_in, to_sites, from_sites}
+use Rattle.trees.proofs.Promises.{Good, done_is_good, refused_is_so}
+use Rattle.moves.specs.Moves.{in_form, to_sites, from_sites}
 use Rattle.moves.proofs.Forms.{found_none, memory_sited, form_writes}
 
 -- a tree in memory in that form
@@ -45,56 +41,48 @@ memory_count : (b : Book) → (memory b).event_count ≡ length b.events
 unfolding memory
 memory_count b = refl
 
-module _ (bytes : List ℕ) {r : Reading} (e : r ≡ in_memory (outcome limits bytes)) where
-  -- a refused reading
-  pub to_refused : (room : List ℕ) → ((verdict r.answer).number ≡ 0 → ⊥) → wrote r.answer 0 room ≡ to_sites limits bytes room
-  unfolding to_sites in_memory
-  to_refused room not = go (outcome limits bytes) refl
-    where
-      go : (o : Outcome) → outcome limits bytes ≡ o → wrote r.answer 0 room ≡ to_sites limits bytes room
-      go (accept b) q = absurd (not (ap (λ (x : Reading). (verdict x.answer).number) (e ∙ ap in_memory q)))
-      go (refuse a) q = rw (q, to_sites) (ap (λ (x : Reading). wrote x.answer 0 room) (e ∙ ap in_memory q))
+-- a refused reading
+module _ (bytes : List ℕ) {a : Refusal} (e : Err a ≡ in_memory (outcome limits bytes)) where
+  pub to_refused : (room : List ℕ) → wrote (Err a) room ≡ to_sites limits bytes room
+  unfolding to_sites
+  to_refused room = rw (refused_is_so bytes e, to_sites)
 
-  pub from_refused : (room : List ℕ) → ((verdict r.answer).number ≡ 0 → ⊥) → wrote r.answer 0 room ≡ from_sites limits bytes room
-  unfolding from_sites in_memory
-  from_refused room not = go (outcome limits bytes) refl
-    where
-      go : (o : Outcome) → outcome limits bytes ≡ o → wrote r.answer 0 room ≡ from_sites limits bytes room
-      go (accept b) q = absurd (not (ap (λ (x : Reading). (verdict x.answer).number) (e ∙ ap in_memory q)))
-      go (refuse a) q = rw (q, from_sites) (ap (λ (x : Reading). wrote x.answer 0 room) (e ∙ ap in_memory q))
+  pub from_refused : (room : List ℕ) → wrote (Err a) room ≡ from_sites limits bytes room
+  unfolding from_sites
+  from_refused room = rw (refused_is_so bytes e, from_sites)
 
-  -- a done one
-  module _ (done : (verdict r.answer).number ≡ 0) where
-    good : Good bytes r.tree
-    good = done_is_good bytes e (done_is r.answer done)
+-- one that is not
+module _ (bytes : List ℕ) {t : Tree} (e : Ok t ≡ in_memory (outcome limits bytes)) where
+  good : Good bytes t
+  good = done_is_good bytes e
 
-    pub few_events : r.tree.event_count ≤ limits.events
-    few_events = rw good.tree (omega (arith, memory_count good.book, good.lawful.few_events))
+  pub few_events : t.event_count ≤ limits.events
+  few_events = rw good.tree (omega (arith, memory_count good.book, good.lawful.few_events))
 
-    pub to_done : (room : List ℕ) {w : Wrote} → w ≡ write_of limits (formed true r.tree) room → w ≡ to_sites limits bytes room
-    unfolding to_sites
-    to_done room q =
-        q ∙ ap (λ (t : Tree). write_of limits (formed true t) room) good.tree
-        ∙ ap (λ (t : Tree). write_of limits t room) (formed_memory true good.book)
-        ∙ form_writes true good.lawful (λ z. let y : ◌≡◌ {A = ℕ} 0 1 = cc in absurd (omega arith)) room
-        ∙ rw good.accepted
+  pub to_done : (room : List ℕ) {w : Wrote} → w ≡ write_of limits (formed true t) room → w ≡ to_sites limits bytes room
+  unfolding to_sites
+  to_done room q =
+      q ∙ ap (λ (t : Tree). write_of limits (formed true t) room) good.tree
+      ∙ ap (λ (t : Tree). write_of limits t room) (formed_memory true good.book)
+      ∙ form_writes true good.lawful (λ z. let y : ◌≡◌ {A = ℕ} 0 1 = cc in absurd (omega arith)) room
+      ∙ rw good.accepted
 
-    sought : lowest_sited r.tree.event_count 0 r.tree.events ≡ lowest_sited (length good.book.events) 0 good.book.events
-    sought = ap (λ (t : Tree). lowest_sited t.event_count 0 t.events) good.tree ∙ memory_sited good.book
+  sought : lowest_sited t.event_count 0 t.events ≡ lowest_sited (length good.book.events) 0 good.book.events
+  sought = ap (λ (t : Tree). lowest_sited t.event_count 0 t.events) good.tree ∙ memory_sited good.book
 
-    pub from_done : (room : List ℕ) → Nothing ≡ lowest_sited r.tree.event_count 0 r.tree.events → {w : Wrote} → w ≡ write_of limits (formed false r.tree) room
-        → w ≡ from_sites limits bytes room
-    unfolding from_sites
-    from_done room none q =
-        let free : lowest_sited (length good.book.events) 0 good.book.events ≡ Nothing = sym (none ∙ sought) in
-        q ∙ ap (λ (t : Tree). write_of limits (formed false t) room) good.tree
-        ∙ ap (λ (t : Tree). write_of limits t room) (formed_memory false good.book)
-        ∙ form_writes false good.lawful (λ _. found_none good.book.events (length good.book.events) 0 free) room
-        ∙ rw (good.accepted, free)
+  pub from_done : (room : List ℕ) → None ≡ lowest_sited t.event_count 0 t.events → {w : Wrote} → w ≡ write_of limits (formed false t) room
+      → w ≡ from_sites limits bytes room
+  unfolding from_sites
+  from_done room none q =
+      let free : lowest_sited (length good.book.events) 0 good.book.events ≡ None = sym (none ∙ sought) in
+      q ∙ ap (λ (t : Tree). write_of limits (formed false t) room) good.tree
+      ∙ ap (λ (t : Tree). write_of limits t room) (formed_memory false good.book)
+      ∙ form_writes false good.lawful (λ _. found_none good.book.events (length good.book.events) 0 free) room
+      ∙ rw (good.accepted, free)
 
-    pub from_sited : (room : List ℕ) {i k : ℕ} → At i ≡ lowest_sited r.tree.event_count 0 r.tree.events → k ≡ length_of 0x11
-        → {a : Answer} → a ≡ Sited (k * i) → {n : ℕ} → n ≡ 0 → wrote a n room ≡ from_sites limits bytes room
-    unfolding from_sites
-    from_sited room {i} {k} found seven {a} is {n} none =
-        let first : lowest_sited (length good.book.events) 0 good.book.events ≡ At i = sym (found ∙ sought) in
-        rw (is, none, seven, good.accepted, first)
+  pub from_sited : (room : List ℕ) {i k : ℕ} → Some i ≡ lowest_sited t.event_count 0 t.events → k ≡ length_of 0x11
+      → {a : Refusal} → a ≡ Sited (k * i) → wrote (Err a) room ≡ from_sites limits bytes room
+  unfolding from_sites
+  from_sited room {i} {k} found seven {a} is =
+      let first : lowest_sited (length good.book.events) 0 good.book.events ≡ Some i = sym (found ∙ sought) in
+      rw (is, seven, good.accepted, first)

@@ -1,5 +1,5 @@
 -- What the moves to the form with sites and back answer, and what the room holds next.
-use Rattle.std.specs.Prelude.{ℕ, ◌*◌, Bool, true, false, List, length}
+use Rattle.std.specs.Prelude.{ℕ, ◌*◌, Bool, true, false, List, length, Option, Some, None, Err}
 use Rattle.paper.specs.Limits.{Limits}
 use Rattle.rules.specs.Format.{length_of}
 use Rattle.records.specs.Judge.{Book, Outcome, accept, refuse, outcome}
@@ -7,9 +7,7 @@ use Rattle.records.specs.Memory.{memory}
 use Rattle.judging.specs.Bytes.{bytes_of}
 use Rattle.writing.specs.Sites.{lowest_sited}
 use Rattle.writing.specs.Writes.{Wrote, wrote, laid_of}
-use Rattle.rules.specs.declared.Answer.TheVariants.{Sited}
-use Rattle.records.specs.declared.uses.Found.{Found}
-use Rattle.records.specs.declared.uses.Found.TheVariants.{At, Nothing}
+use Rattle.rules.specs.declared.Refusal.TheVariants.{Sited}
 
 -- the same tree, its records with sites or without
 abbrev pub in_form : Bool → Book → Book
@@ -28,12 +26,12 @@ in_form sited b = record {
 -- a refusal, or the tree's bytes in that form for a room: Room (9) if they do not fit, and room behind them stays
 abbrev pub moved_in : Bool → Outcome → List ℕ → Wrote
 moved_in sited (accept b) room = laid_of (accept b) (bytes_of (memory (in_form sited b))) room
-moved_in sited (refuse a) room = wrote a 0 room
+moved_in sited (refuse a) room = wrote (Err a) room
 
 -- Sited (22) behind an outcome, at the record, with a site, of an event
-abbrev pub or_lost : Found → Book → Outcome
-or_lost (At e) b = refuse (Sited (length_of 0x11 * e))
-or_lost Nothing b = accept b
+abbrev pub or_lost : Option ℕ → Book → Outcome
+or_lost (Some e) b = refuse (Sited (length_of 0x11 * e))
+or_lost None b = accept b
 
 -- Sited where an event has a site that is not 0, at the first such record
 abbrev pub kept_by : Outcome → Outcome

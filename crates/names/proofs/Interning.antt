@@ -3,18 +3,20 @@
 use mathlib.Core.Path.{◌≡◌, refl, sym, ap, ◌∙◌, subst}
 use mathlib.Core.Bool.{Bool, true, false}
 use mathlib.Core.List.{List, []}
-use Prim.Native.Nat.{ℕ, zero, ◌+◌, ◌-◌, ◌*◌, ◌%◌, ◌<◌, ◌≤◌}
+use Prim.Native.Nat.{ℕ, ◌+◌, ◌-◌, ◌*◌, ◌%◌, ◌<◌, ◌≤◌}
 use native.Mathlib.Decide.{ℕ_discrete, dec_lt}
-use native.Mathlib.Nat.{mod-lt}
+use native.Mathlib.Nat.{mod-lt, mod-add-mod}
+use Rattle.std.proofs.Common.{add-zero, replicate}
+use Rattle.std.proofs.lemmas.List.{get_or-replicate, length-replicate}
 use native.Mathlib.Omega.{arith}
-use lib.ListN.{get_or, length, set, length-set}
+use lib.ListN.{get_or, length, take, drop, set, length-set}
 use lib.Seq.{get_or-set_same, get_or-set_other}
 use borrow.Author.Count.{below_more}
 use Rattle.paper.specs.Bytes.{letter_or_digit, same}
 use Rattle.paper.specs.Equations.{has, number_of}
 use Rattle.lines.specs.Reading.{name_at, Ends}
-use Rattle.names.specs.Interning.{dict_of, mix_on, slot_of, First, chain_at, Last, Interned, Zeros, Sought, Interns}
-use Rattle.lines.proofs.Leads.{ends_front, ends_next, ends_none}
+use Rattle.names.specs.Interning.{dict_of, mix_on, slot_of, First, chain_at, Last, Interned, Zeros, Hit, Missed, Interns}
+use Rattle.lines.proofs.Leads.{ends_front, ends_next, ends_none, slice_length, slice_inside, slice_byte}
 use Rattle.names.proofs.Dicts.{same_yes, same_no, has_not, has_at, number_at, dict_long, dict_at, dict_more, with_old, with_new, spots_old, spots_new}
 
 -- ---- the chain of a name
@@ -24,20 +26,24 @@ pub record Mixing (s : List ℕ) (i e j h : ℕ) : Type 0 where
   pub small : h < 4294967296
   pub same : mix_on 5381 (name_at s i) ≡ mix_on h (name_at s j)
 
-pub mixing_start : {s : List ℕ} {i e : ℕ} → Ends letter_or_digit s i e → Mixing s i e i 5381
-mixing_start n = record { ends = n; small = omega arith; same = refl }
+pub mixing_start : {s : List ℕ} {i e : ℕ} → Ends letter_or_digit s i e → Mixing s i e (i + 0) 5381
+mixing_start n = rw add-zero record { ends = n; small = omega arith; same = refl }
 
-module _ {s : List ℕ} {i e j h : ℕ} (m : Mixing s i e j h) where
-  pub mixing_next : {x : ℕ} → j < e → x ≡ get_or s j 0 → Mixing s i e (j + 1) ((h * 33 + x) % 4294967296)
-  mixing_next {x} l p = record {
-    ends = ends_next m.ends l;
-    small = omega arith;
-    same = m.same ∙ ap (mix_on h) (ends_front m.ends l) ∙ ap (λ k. mix_on ((h * 33 + k) % 4294967296) (name_at s (j + 1))) (sym p);
-  }
+-- the name's bytes as a slice: its byte k
+module _ {s : List ℕ} {i e k h : ℕ} (n : Ends letter_or_digit s i e) (m : Mixing s i e (i + k) h) where
+  pub mixing_next : {x : ℕ} → k < length (take (e - i) (drop i s)) → x ≡ get_or (take (e - i) (drop i s)) k 0 → Mixing s i e (i + (k + 1)) ((h * 33 % 4294967296 + x) % 4294967296)
+  mixing_next {x} l p =
+      let place : i + k + 1 ≡ i + (k + 1) = omega arith in
+      let byte : x ≡ get_or s (i + k) 0 = p ∙ slice_byte n l in
+      subst (λ j. Mixing s i e j ((h * 33 % 4294967296 + x) % 4294967296)) place record {
+        ends = ends_next m.ends (slice_inside n l);
+        small = omega arith;
+        same = m.same ∙ ap (mix_on h) (ends_front m.ends (slice_inside n l)) ∙ ap (λ v. mix_on v (name_at s (i + k + 1))) (ap (λ b. (h * 33 + b) % 4294967296) (sym byte) ∙ sym (mod-add-mod (h * 33) 4294967296 x));
+      }
 
-  pub mixing_end : (slots : ℕ) → e ≤ j → 1 ≤ slots → First (name_at s i) slots (h % slots)
+  pub mixing_end : {slots : ℕ} → length (take (e - i) (drop i s)) ≤ k → 1 ≤ slots → First (name_at s i) slots (h % slots)
   unfolding slot_of
-  mixing_end slots l p = record { is = ap (λ k. k % slots) (sym (m.same ∙ ap (mix_on h) (ends_none m.ends l))); below = mod-lt h p }
+  mixing_end {slots} l p = record { is = ap (λ k. k % slots) (sym (m.same ∙ ap (mix_on h) (ends_none m.ends (omega (arith, slice_length n))))); below = mod-lt h p }
 
 -- ---- the search
 
@@ -75,11 +81,11 @@ module _ {text N H X : List ℕ} {c : ℕ} {w : List ℕ} (t : Interned text N H
         go k r m x (no l) (yes e) a = n (subst (λ y. name_at text (get_or N y 0) ≡ w) e x)
         go k r m x (no l) (no e) a = q.none k (omega arith) m x
 
-pub seek_hit : {text N : List ℕ} {slots c : ℕ} {w : List ℕ} {i : ℕ} → 0 < i → Seek text N slots c w i → name_at text (get_or N (i - 1) 0) ≡ w → Sought text N c w i
-seek_hit p q x = record { to = q.to; hit = λ _. x; miss = λ l. absurd (omega arith) }
+pub seek_hit : {text N : List ℕ} {slots c : ℕ} {w : List ℕ} {i : ℕ} → 0 < i → Seek text N slots c w i → name_at text (get_or N (i - 1) 0) ≡ w → Hit text N c w (i - 1)
+seek_hit p q x = record { below = omega (arith, q.to); name = x }
 
-pub seek_miss : {text N : List ℕ} {slots c : ℕ} {w : List ℕ} {i : ℕ} → i ≤ 0 → Seek text N slots c w i → Sought text N c w i
-seek_miss p q = record { to = q.to; hit = λ l. absurd (omega arith); miss = λ _ k l x. q.none k (omega arith) l x }
+pub seek_miss : {text N : List ℕ} {slots c : ℕ} {w : List ℕ} {i : ℕ} → i ≤ 0 → Seek text N slots c w i → Missed text N c w
+seek_miss p q = record { none = λ k l x. q.none k (omega arith) l x }
 
 -- one turn of the search, with the code's numbers
 module _ {text N H X : List ℕ} {c : ℕ} {w : List ℕ} {i : ℕ} (t : Interned text N H X c) (pos : 0 < i) (q : Seek text N (length H) c w i) {p : ℕ} (ep : p ≡ i) where
@@ -99,7 +105,7 @@ module _ {text N H X : List ℕ} {c : ℕ} {w : List ℕ} {i : ℕ} (t : Interne
     turn_name : name_at text a ≡ name_at text (get_or N (i - 1) 0)
     turn_name = ap (name_at text) (ea ∙ ap (λ k. get_or N k 0) (sym turn_at))
 
-    pub turn_hit : {b : Bool} → b ≡ same (name_at text a) w → b ≡ true → Sought text N c w i
+    pub turn_hit : {b : Bool} → b ≡ same (name_at text a) w → b ≡ true → Hit text N c w (i - 1)
     turn_hit e h = seek_hit pos q (sym turn_name ∙ same_yes (name_at text a) w (sym e ∙ h))
 
     pub turn_next : {b : Bool} → b ≡ same (name_at text a) w → b ≡ false → Seek text N (length H) c w (get_or X (p - 1) 0)
@@ -107,18 +113,10 @@ module _ {text N H X : List ℕ} {c : ℕ} {w : List ℕ} {i : ℕ} (t : Interne
 
 -- ---- nothing interned yet
 
-pub zeros_none : (H : List ℕ) → Zeros H 0
-zeros_none H = record { zero = λ k h. absurd (omega arith) }
+pub zeros_filled : {H : List ℕ} (n : ℕ) → H ≡ replicate n 0 → Zeros H (length H)
+zeros_filled {H} n e = record { zero = λ k h. ap (λ l. get_or l k 0) e ∙ get_or-replicate n k 0 0 (let z = ap length e ∙ length-replicate n 0 in omega arith) }
 
-pub zeros_more : {H : List ℕ} {i : ℕ} → i < length H → Zeros H i → Zeros (set H i 0) (i + 1)
-zeros_more {H} {i} l z = record {
-  zero = below_more (λ k. get_or (set H i 0) k 0 ≡ 0) i (λ k h. get_or-set_other H i k 0 0 (omega arith) ∙ z.zero k h) (get_or-set_same H i 0 0 l);
-}
-
-pub zeros_all : {H : List ℕ} {i : ℕ} → length H ≤ i → Zeros H i → Zeros H (length H)
-zeros_all l z = record { zero = λ k h. z.zero k (omega arith) }
-
--- after `clear` no name has a number, whatever the other lists hold
+-- with such heads no name has a number, whatever the other lists hold
 pub interned_none : (text N H X : List ℕ) → Zeros H (length H) → length N ≤ length X → 1 ≤ length H → length N ≤ 4294967295 → length text ≤ 4294967295 → Interned text N H X 0
 interned_none text N H X z a b d e = record {
   room = omega arith;
@@ -134,31 +132,28 @@ interned_none text N H X z a b d e = record {
 
 -- ---- a name that has a number
 
-module _ {text N H X : List ℕ} {c : ℕ} {w : List ℕ} {r : ℕ} (t : Interned text N H X c) (s : Sought text N c w r) (p : 0 < r) where
-  old_within : r - 1 < c
-  old_within = omega (arith, s.to)
-
-  old_name : get_or (dict_of text N c) (r - 1) [] ≡ w
-  old_name = dict_at text N c t.room (r - 1) old_within ∙ s.hit p
+module _ {text N H X : List ℕ} {c : ℕ} {w : List ℕ} {r : ℕ} (t : Interned text N H X c) (s : Hit text N c w r) where
+  old_name : get_or (dict_of text N c) r [] ≡ w
+  old_name = dict_at text N c t.room r s.below ∙ s.name
 
   old_known : has w (dict_of text N c) ≡ true
-  old_known = let long = dict_long text N c t.room in has_at w (dict_of text N c) (r - 1) (omega (arith, old_within)) old_name
+  old_known = let long = dict_long text N c t.room in has_at w (dict_of text N c) r (omega (arith, s.below)) old_name
 
-  pub old_number : r - 1 ≡ number_of w (dict_of text N c)
+  pub old_number : r ≡ number_of w (dict_of text N c)
   old_number =
       let long = dict_long text N c t.room in
-      number_at w (dict_of text N c) (r - 1) (omega (arith, old_within)) old_name (λ j m x. let y : j ≡ r - 1 = t.unique j (r - 1) (omega (arith, old_within)) old_within (sym (dict_at text N c t.room j (omega (arith, old_within))) ∙ x ∙ sym (s.hit p)) in omega arith)
+      number_at w (dict_of text N c) r (omega (arith, s.below)) old_name (λ j m x. let y : j ≡ r = t.unique j r (omega (arith, s.below)) s.below (sym (dict_at text N c t.room j (omega (arith, s.below))) ∙ x ∙ sym (s.name)) in omega arith)
 
-pub interns_old : {text N H X : List ℕ} {c at r : ℕ} → Interned text N H X c → Sought text N c (name_at text at) r → 0 < r → Interns text N c at N H X (r - 1) c
-interns_old {text} {N} {H} {X} {c} {at} {r} t s p = record {
+pub interns_old : {text N H X : List ℕ} {c at r : ℕ} → Interned text N H X c → Hit text N c (name_at text at) r → Interns text N c at N H X r c
+interns_old {text} {N} {H} {X} {c} {at} {r} t s = record {
   store = t;
   more = omega arith;
   one = omega arith;
   long = refl;
-  dict = sym (with_old (dict_of text N c) (name_at text at) (old_known t s p));
-  spots = spots_old (dict_of text N c) (name_at text at) N c at (old_known t s p);
-  within = old_within t s p;
-  number = old_number t s p;
+  dict = sym (with_old (dict_of text N c) (name_at text at) (old_known t s));
+  spots = spots_old (dict_of text N c) (name_at text at) N c at (old_known t s);
+  within = s.below;
+  number = old_number t s;
 }
 
 -- ---- a new name
@@ -257,5 +252,5 @@ module _ {text N H X : List ℕ} {c at : ℕ} (t : Interned text N H X c) (room 
         }
 
 -- with the code's number
-pub interns_added : {text N H X : List ℕ} {c at h k r : ℕ} → Interned text N H X c → (at ≤ length text) × (c < length N) → First (name_at text at) (length H) h → Sought text N c (name_at text at) r → r ≤ 0 → k ≡ c → Interns text N c at (set N k at) (set H h (c + 1)) (set X k (get_or H h 0)) c (c + 1)
-interns_added {text} {N} {H} {X} {c} {at} {h} {k} {r} t p f s l e = subst (λ y. Interns text N c at (set N y at) (set H h (c + 1)) (set X y (get_or H h 0)) c (c + 1)) (sym e) (interns_new t p.1 p.0 f (s.miss (omega arith)))
+pub interns_added : {text N H X : List ℕ} {c at h k : ℕ} → Interned text N H X c → (at ≤ length text) × (c < length N) → First (name_at text at) (length H) h → Missed text N c (name_at text at) → k ≡ c → Interns text N c at (set N k at) (set H h (c + 1)) (set X k (get_or H h 0)) c (c + 1)
+interns_added {text} {N} {H} {X} {c} {at} {h} {k} t p f s e = subst (λ y. Interns text N c at (set N y at) (set H h (c + 1)) (set X y (get_or H h 0)) c (c + 1)) (sym e) (interns_new t p.1 p.0 f s.none)

@@ -1,7 +1,7 @@
 -- NAMES AS NUMBERS: a name's number is its place among the names met so far, each once and by first appearance.
 -- N has the place of each name's first appearance in the text, H the heads of the chains, X the links, c the number of names.
 -- Assumes nothing.
-use Rattle.std.specs.Prelude.{◌≡◌, List, [], ◌∷◌, ◌++◌, map, ℕ, ◌+◌, ◌-◌, ◌*◌, ◌%◌, ◌<◌, ◌≤◌, get_or, length, take}
+use Rattle.std.specs.Prelude.{◌≡◌, Option, Some, None, List, [], ◌∷◌, ◌++◌, map, ℕ, ◌+◌, ◌-◌, ◌*◌, ◌%◌, ◌<◌, ◌≤◌, get_or, length, take}
 use Rattle.paper.specs.Equations.{with, number_of}
 use Rattle.paper.specs.Spots.{firsts}
 use Rattle.lines.specs.Reading.{name_at}
@@ -50,11 +50,18 @@ pub record Interned (text N H X : List ℕ) (c : ℕ) : Type 0 where
 pub record Zeros (H : List ℕ) (n : ℕ) : Type 0 where
   pub zero : (k : ℕ) → k < n → get_or H k 0 ≡ 0
 
--- what the search answers: one more than the number of the name w, or 0 where it has none
-pub record Sought (text N : List ℕ) (c : ℕ) (w : List ℕ) (r : ℕ) : Type 0 where
-  pub to : r ≤ c
-  pub hit : 1 ≤ r → name_at text (get_or N (r - 1) 0) ≡ w
-  pub miss : r < 1 → (k : ℕ) → k < c → name_at text (get_or N k 0) ≡ w → ⊥
+-- the name w has number r, or none
+pub record Hit (text N : List ℕ) (c : ℕ) (w : List ℕ) (r : ℕ) : Type 0 where
+  pub below : r < c
+  pub name : name_at text (get_or N r 0) ≡ w
+
+pub record Missed (text N : List ℕ) (c : ℕ) (w : List ℕ) : Type 0 where
+  pub none : (k : ℕ) → k < c → name_at text (get_or N k 0) ≡ w → ⊥
+
+-- what the search answers
+abbrev pub Sought : (text N : List ℕ) (c : ℕ) (w : List ℕ) → Option ℕ → Type 0
+Sought text N c w (Some r) = Hit text N c w r
+Sought text N c w None = Missed text N c w
 
 -- WHAT INTERNING ANSWERS of the name at `at`: its number r, the names with it, and its place behind theirs where it is new
 pub record Interns (text N : List ℕ) (c at : ℕ) (N' H' X' : List ℕ) (r c' : ℕ) : Type 0 where

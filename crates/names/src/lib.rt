@@ -4,9 +4,9 @@
 ghost use Rattle.std.specs.Prelude.{◌≡◌, ◌<◌, ◌≤◌, length};
 ghost use Rattle.paper.specs.Bytes.{letter_or_digit, same};
 ghost use Rattle.lines.specs.Reading.{name_at, Ends};
-ghost use Rattle.names.specs.Interning.{First, Interned, Zeros, Sought, Interns};
+ghost use Rattle.names.specs.Interning.{First, Interned, Sought, Interns};
 
-use lines::{is_word, name_end, wide};
+use lines::{is_word, name_end};
 
 // The number of a name, and how many names there are.
 #[derive(Clone, Copy)]
@@ -27,13 +27,11 @@ fn slot(text: &[u8], i: usize, e: usize, slots: usize) -> usize
     requires le_slots { 1 ≤ slots }
     ensures { First (name_at text.now i) slots result }
 {
-    let mut h: u64 = 5381;
-    let mut j = i;
-    while j < e {
-        h = (h * 33 + wide(text[j])) % 4294967296;
-        j += 1;
+    let mut h: u32 = 5381;
+    for b in &text[i..e] {
+        h = h.wrapping_mul(33).wrapping_add(u32::from(*b));
     }
-    (h % (slots as u64)) as usize
+    h as usize % slots
 }
 
 // Whether the name at `a` is the one from `b` to `f`.
@@ -46,18 +44,7 @@ fn same_name(text: &[u8], a: usize, b: usize, f: usize) -> bool
     is_word(text, a, e, &text[b..f])
 }
 
-// Zeros: as heads, no name has a number.
-pub fn clear(heads: &mut [u32])
-    ensures { Zeros heads.new (length heads.new) }
-{
-    let mut i = 0;
-    while i < heads.len() {
-        heads[i] = 0;
-        i += 1;
-    }
-}
-
-// One more than the number of the name from `at` to `end`, which is in chain `h`; or 0.
+// The number of the name from `at` to `end`, which is in chain `h`; or none.
 fn find(
     text: &[u8],
     at: usize,
@@ -67,7 +54,7 @@ fn find(
     names: &[u32],
     count: u32,
     h: usize,
-) -> u32
+) -> Option<u32>
     requires interned { Interned text.now names.now heads.now next.now count }
     requires ends { Ends letter_or_digit text.now at end }
     requires first { First (name_at text.now at) (length heads.now) h }
@@ -78,15 +65,22 @@ fn find(
         let k = place(i) - 1;
         let a = place(names[k]);
         if same_name(text, a, at, end) {
-            return i;
+            return Some(i - 1);
         }
         i = next[k];
     }
-    i
+    None
 }
 
-// One more than the number of the name at `at`, or 0 where it has none.
-pub fn look(text: &[u8], at: usize, heads: &[u32], next: &[u32], names: &[u32], count: u32) -> u32
+// The number of the name at `at`, or none.
+pub fn look(
+    text: &[u8],
+    at: usize,
+    heads: &[u32],
+    next: &[u32],
+    names: &[u32],
+    count: u32,
+) -> Option<u32>
     requires interned { Interned text.now names.now heads.now next.now count }
     requires at_in_bounds { at ≤ length text.now }
     ensures { Sought text.now names.now count (name_at text.now at) result }
@@ -111,12 +105,8 @@ pub fn intern(
 {
     let end = name_end(text, at);
     let h = slot(text, at, end, heads.len());
-    let r = find(text, at, end, heads, next, names, count, h);
-    if 0 < r {
-        return Named {
-            number: r - 1,
-            count: count,
-        };
+    if let Some(number) = find(text, at, end, heads, next, names, count, h) {
+        return Named { number, count };
     }
     let k = place(count);
     names[k] = at as u32;

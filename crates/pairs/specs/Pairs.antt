@@ -1,13 +1,11 @@
--- Two nodes of a store: taken apart, asked for, and the node over two branches.
+-- Two nodes of a store: taken apart and asked for.
 -- Assumes nothing.
 use Rattle.std.specs.Prelude.{◌≡◌, Bool, List, ℕ, ◌+◌, ◌-◌, ◌<◌, ◌≤◌, min, max, eqb}
-use Rattle.paper.specs.Diagrams.{Diagram, mk_d}
+use Rattle.paper.specs.Diagrams.{mk_d}
 use Rattle.algebra.specs.Operations.{join_d}
 use Rattle.tables.specs.Table.{den}
-use Rattle.store.specs.Building.{Is, Found, Makes, Stops, Tidy}
-use Rattle.store.specs.Memo.{Memo, Place, Keeps}
-use Rattle.store.specs.declared.Built.{Built}
-use Rattle.store.specs.declared.Built.TheVariants.{Done, Short}
+use Rattle.store.specs.Building.{Found, Tidy}
+use Rattle.store.specs.Memo.{Memo, Place}
 use Rattle.store.specs.declared.Known.{Known}
 use Rattle.store.specs.declared.Known.TheVariants.{Node, Unknown}
 use Rattle.store.specs.declared.Parts.{Parts}
@@ -54,12 +52,3 @@ pub record Misses (M : List ℕ) (f at : ℕ) : Type 0 where
 abbrev pub Asked : List ℕ → ℕ → ℕ → ℕ → Known → Type 0
 Asked M z f g (Node r) = Answers M z f g r
 Asked M z f g (Unknown at) = Misses M f at
-
--- the node over two branches, kept as the answer to an operation
-pub record Finished (T M : List ℕ) (c : ℕ) (D : Diagram) (op f g : ℕ) (T' H' X' M' : List ℕ) (c' r : ℕ) : Type 0 where
-  pub makes : Makes (Is D) T c D T' H' X' c' r
-  pub keeps : Keeps M op f g r M'
-
-abbrev pub Finishes : (T M : List ℕ) (c : ℕ) (D : Diagram) (op f g : ℕ) (T' H' X' M' : List ℕ) → Built → Type 0
-Finishes T M c D op f g T' H' X' M' (Done r c') = Finished T M c D op f g T' H' X' M' c' r
-Finishes T M c D op f g T' H' X' M' (Short c') = Stops (Is D) T c T' H' X' c'

@@ -1,43 +1,23 @@
-// Two nodes of a store: taken apart at the earlier of their events; what needs no recursion; the node over two branches, kept as the answer.
+// Two nodes of a store: taken apart at the earlier of their events; what needs no recursion.
 #![tactic(auto)]
 
-ghost use Rattle.std.specs.Prelude.{◌≡◌, ◌+◌, ◌/◌, ◌<◌, ◌≤◌, min, max, length};
-ghost use Rattle.paper.specs.Diagrams.{mk_d};
-ghost use Rattle.tables.specs.Table.{den};
+ghost use Rattle.std.specs.Prelude.{◌+◌, ◌<◌, ◌≤◌, min, max};
 ghost use Rattle.store.specs.Store.{Store};
-ghost use Rattle.store.specs.Memo.{Places, Place};
-ghost use Rattle.pairs.specs.Pairs.{Arranged, Parted, Asked, Finishes};
+ghost use Rattle.store.specs.Memo.{Places};
+ghost use Rattle.pairs.specs.Pairs.{Arranged, Parted, Asked};
 
-use store::{Built, Known, Parts};
-
-pub fn least(a: u32, b: u32) -> u32
-    ensures { result ≡ min a b }
-{
-    if a < b {
-        return a;
-    }
-    b
-}
-
-pub fn most(a: u32, b: u32) -> u32
-    ensures { result ≡ max a b }
-{
-    if a < b {
-        return b;
-    }
-    a
-}
+use store::{Known, Parts};
 
 // Joining commutes: of each pair the lower number comes first, so that the memo is asked in one way.
 fn arranged(e: u32, a1: u32, b1: u32, a0: u32, b0: u32) -> Parts
     ensures { Arranged e a1 b1 a0 b0 result }
 {
     Parts {
-        e: e,
-        f1: least(a1, b1),
-        g1: most(a1, b1),
-        f0: least(a0, b0),
-        g0: most(a0, b0),
+        e,
+        f1: a1.min(b1),
+        g1: a1.max(b1),
+        f0: a0.min(b0),
+        g0: a0.max(b0),
     }
 }
 
@@ -78,42 +58,4 @@ pub fn ask(memo: &[u32], z: u32, f: u32, g: u32) -> Known
         return Known::Node(g);
     }
     store::recall(memo, z + 1, f, g)
-}
-
-// Makes the node over two branches, and keeps it as the answer to f and g.
-pub fn finish(
-    nodes: &mut [u32],
-    heads: &mut [u32],
-    next: &mut [u32],
-    memo: &mut [u32],
-    count: usize,
-    z: u32,
-    f: u32,
-    g: u32,
-    at: usize,
-    e: u32,
-    failed: u32,
-    sound: u32,
-) -> Built
-    requires store { Store nodes.old heads.old next.old count }
-    requires failed_bound { failed < count + 2 }
-    requires sound_bound { sound < count + 2 }
-    requires z_bound { z < 2 }
-    requires place { Place memo.old at }
-    ensures { Finishes nodes.old memo.old count (mk_d e (den nodes.old failed) (den nodes.old sound)) (z + 1) f g nodes.new heads.new next.new memo.new result }
-{
-    match store::make(nodes, heads, next, count, e, failed, sound) {
-        Built::Short(c) => Built::Short(c),
-        Built::Done(r, c) => {
-            store::keep(memo, at, z + 1, f, g, r);
-            Built::Done(r, c)
-        }
-    }
-}
-
-// The answer where the table is full: it has as many nodes as it has room for.
-pub fn full(nodes: &[u32]) -> Built
-    ensures { result ≡ Built.Short (length nodes.now / 3) }
-{
-    Built::Short(nodes.len() / 3)
 }

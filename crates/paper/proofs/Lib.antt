@@ -2,3 +2,4 @@
 pub mod Listing
 pub mod Longest
 pub mod Old
+pub mod Refusals

@@ -17,6 +17,7 @@ pub mod Changes
 pub mod Chance
 pub mod Importance
 pub mod Sizes
+pub mod Refusals
 pub mod Reports
 pub mod Planner
 pub mod Answers

@@ -1,6 +1,8 @@
 // The rules that the analyser keeps: specs/ has them as definitions, one file for each idea; here are the limits that code and definitions share.
 #![tactic(auto)]
 
+pub mod refusal; // why a call refuses, by name and number
+
 ghost use Rattle.std.specs.Prelude.{◌≡◌};
 ghost use Rattle.paper.specs.Limits.{limits, wide_from, most_bytes, most_numbers, billion};
 ghost use Rattle.paper.specs.Flat.{gates_from, failed_from, sound_from};

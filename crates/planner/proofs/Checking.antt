@@ -1,27 +1,28 @@
 -- The checker's answer, from what the search for a cut answered.
 -- Assumes nothing.
 use mathlib.Core.Path.{◌≡◌, refl, sym, ap, ◌∙◌, subst}
-use mathlib.Core.Logic.{◌≢◌, ◌⊎◌, inl, inr}
 use mathlib.Core.Bool.{Bool, true, false, true≢false}
 use mathlib.Core.List.{List, []}
 use Prim.Native.Nat.{ℕ, ◌+◌, ◌≤◌, ◌<◌}
 use native.Mathlib.Omega.{arith}
 use lib.ListN.{length, replicate, length-replicate}
-use borrow.Author.Tests.{eq-eqb, ne_eqb}
-use Rattle.paper.specs.Lists.{In}
+use Rattle.std.specs.Prelude.{Ok, Err}
 use Rattle.paper.specs.Sets.{Set, put, Within}
 use Rattle.paper.specs.Planner.{Accepted, LowestDroppable, remaining, FirstMissing, fails_by}
 use Rattle.paper.specs.Answers.{Beyond}
+use Rattle.paper.specs.Refusals.{number}
+use Rattle.paper.specs.declared.refusal.Refusal.{Refusal}
+use Rattle.paper.specs.declared.refusal.Refusal.TheVariants.{NoDiagram, Length, Beyond as BeyondEvents}
+use Rattle.paper.proofs.Refusals.{number_above}
 use Rattle.algebra.proofs.Base.{three, Three, below, beyond, equal, put_same, put_other}
 use Rattle.sets.specs.Words.{words, set_of, Lowest}
 use Rattle.remaining.specs.Families.{CutDiagram, family, Cleared}
 use Rattle.remaining.specs.FirstCut.{Room, Finds, Searched, Missing}
 use Rattle.remaining.proofs.Answering.{family_within}
 use Rattle.remaining.proofs.Once.{first_none}
-use Rattle.planner.specs.Saying.{refusal_of}
-use Rattle.planner.specs.Checking.{Refuses, Passed, Answers, Checks, Trial, Judges}
-use Rattle.planner.specs.declared.Judgement.{Judgement}
-use Rattle.planner.specs.declared.Judgement.TheVariants.{NoDiagram, TooShort, NoSet, Accepts, Misses, Drops}
+use Rattle.planner.specs.Checking.{Refusing, Passed, Checks, Trial}
+use Rattle.planner.specs.declared.Judgement.TheVariants.{Accepts, Misses, Drops}
+use Rattle.planner.proofs.Reasons.{number_once}
 use Rattle.planner.proofs.Safety.{safe_law, accepted_law, family_decides}
 
 -- ---- what the search found
@@ -32,6 +33,13 @@ found_first {n} {K} {l} {cut = cut} s q = subst (λ b. Finds n K l b cut) q s.fi
 pub found_none : {n : ℕ} {K : Set} {l : List Set} {number place : ℕ} {found : Bool} {cut W W' : List ℕ} → Searched n K l number place found cut W W' → found ≡ false
     → (remaining n K l ≡ []) × (cut ≡ replicate words 0)
 found_none {n} {K} {l} {cut = cut} s q = subst (λ b. Finds n K l b cut) q s.finds
+
+-- why it refused is why `check` does
+pub check_refused : {n : ℕ} {T : List ℕ} {c root : ℕ} {ws : List ℕ} (why : Refusal) {cut W W' : List ℕ} → Missing n T c root ws (number why) 0 false cut W W' → Checks n T c root ws (Err why) cut W W'
+check_refused why (Missing.no_diagram x r) = Refusing.no_diagram (number_once why NoDiagram r.number_is) (record { because = x; no_cut = r.empty_set; area = r.area })
+check_refused why (Missing.too_short v x r) = Refusing.too_short (number_once why Length r.number_is) (record { because = (v, x); no_cut = r.empty_set; area = r.area })
+check_refused why (Missing.beyond v g x r) = Refusing.beyond (number_once why BeyondEvents r.number_is) (record { because = (v, g, x); no_cut = r.empty_set; area = r.area })
+check_refused why (Missing.searched v g x s) = let a = s.number_is in let b = number_above why in absurd (omega (arith, a, b))
 
 module _ {n : ℕ} {T : List ℕ} {c root : ℕ} {ws : List ℕ} {number place : ℕ} {found : Bool} {cut W W' : List ℕ} where
   -- no refusal is due: then it searched
@@ -50,16 +58,7 @@ module _ {n : ℕ} {T : List ℕ} {c root : ℕ} {ws : List ℕ} {number place :
 
   -- ---- the answers of `check`
 
-  pub check_refused : {j : Judgement} → Missing n T c root ws number place found cut W W' → number ≢ 0 → j ≡ refusal_of number → Checks n T c root ws j cut W W'
-  check_refused {j} (Missing.no_diagram x r) h q =
-      subst (λ v. Checks n T c root ws v cut W W') (sym (q ∙ ap refusal_of r.number_is)) (record { because = x; no_cut = r.empty_set; area = r.area })
-  check_refused {j} (Missing.too_short v x r) h q =
-      subst (λ v. Checks n T c root ws v cut W W') (sym (q ∙ ap refusal_of r.number_is)) (record { because = (v, x); no_cut = r.empty_set; area = r.area })
-  check_refused {j} (Missing.beyond v g x r) h q =
-      subst (λ v. Checks n T c root ws v cut W W') (sym (q ∙ ap refusal_of r.number_is)) (record { because = (v, g, x); no_cut = r.empty_set; area = r.area })
-  check_refused {j} (Missing.searched v g x s) h q = absurd (h s.number_is)
-
-  pub check_misses : Missing n T c root ws number place found cut W W' → number ≡ 0 → found ≡ true → Checks n T c root ws Misses cut W W'
+  pub check_misses : Missing n T c root ws number place found cut W W' → number ≡ 0 → found ≡ true → Checks n T c root ws (Ok Misses) cut W W'
   check_misses m q f = let (p, s) = passed_of m q in record { passed = p; because = found_first s f; long = s.long; area = s.area }
 
   pub check_trial : Missing n T c root ws number place found cut W W' → number ≡ 0 → found ≡ false → Trial n T c root ws W'
@@ -73,24 +72,13 @@ module _ {n : ℕ} {T : List ℕ} {c root : ℕ} {ws : List ℕ} {number place :
         zero = s.area ∙ ap (λ k. replicate k 0) (sym long);
       }
 
-  pub check_judged : {W'' : List ℕ} (j : Judgement) → Missing n T c root ws number place found cut W W' → number ≡ 0 → found ≡ false → Judges n (set_of ws) (family T root) j → W'' ≡ W'
-      → Checks n T c root ws j cut W W''
-  check_judged NoDiagram m q f h e = absurd h
-  check_judged TooShort m q f h e = absurd h
-  check_judged NoSet m q f h e = absurd h
-  check_judged Misses m q f h e = absurd h
-  check_judged Accepts m q f h e = let (p, s) = passed_of m q in record { passed = p; because = (h, (found_none s f).1); long = s.long; area = e ∙ s.area }
-  check_judged (Drops i) m q f h e = let (p, s) = passed_of m q in record { passed = p; because = (h, (found_none s f).1); long = s.long; area = e ∙ s.area }
+  pub check_accepts : {W'' : List ℕ} → Missing n T c root ws number place found cut W W' → number ≡ 0 → found ≡ false → Accepted (fails_by n (family T root)) (set_of ws) → W'' ≡ W'
+      → Checks n T c root ws (Ok Accepts) cut W W''
+  check_accepts m q f h e = let (p, s) = passed_of m q in record { passed = p; because = (h, (found_none s f).1); long = s.long; area = e ∙ s.area }
 
--- the refusal by its number
-pub refusal_12 : (k : ℕ) → k ≡ 12 → NoDiagram ≡ refusal_of k
-refusal_12 k q = sym (ap refusal_of q)
-
-pub refusal_9 : (k : ℕ) → k ≡ 9 → TooShort ≡ refusal_of k
-refusal_9 k q = sym (ap refusal_of q)
-
-pub refusal_13 : (k : ℕ) → k ≢ 12 → k ≢ 9 → NoSet ≡ refusal_of k
-refusal_13 k p q = rw (ne_eqb k 12 p, ne_eqb k 9 q)
+  pub check_drops : {W'' : List ℕ} {i : ℕ} → Missing n T c root ws number place found cut W W' → number ≡ 0 → found ≡ false → LowestDroppable (fails_by n (family T root)) (set_of ws) i → W'' ≡ W'
+      → Checks n T c root ws (Ok (Drops i)) cut W W''
+  check_drops m q f h e = let (p, s) = passed_of m q in record { passed = p; because = (h, (found_none s f).1); long = s.long; area = e ∙ s.area }
 
 -- ---- member after member
 

@@ -12,11 +12,11 @@ use borrow.Author.Tests.{eqb-true, eqb-false, ltb-true, ltb-false}
 use Rattle.paper.specs.Lists.{In, keep}
 use Rattle.paper.specs.Sets.{Set, none, put, Part, Within}
 use Rattle.paper.specs.Functions.{Fun}
-use Rattle.paper.specs.Planner.{Safe, Decides, misses, remaining, holding, Chosen, Plans, ends, takes, greatest, choice, plan_from, plan_of}
+use Rattle.paper.specs.Planner.{Safe, Decides, misses, remaining, holding, Plans, ends, takes, greatest, choice, plan_from, plan_of}
 use Rattle.algebra.proofs.Base.{eqb_or, put_same, put_other, three, Three, below, beyond, equal}
 use Rattle.algebra.proofs.Lists.{in_keep, keep_in, keep_none}
 use Rattle.algebra.proofs.Sets.{not_true}
-use Rattle.remaining.proofs.Missing.{misses_at, at_misses, none_misses}
+use Rattle.remaining.proofs.Missing.{misses_at, at_misses}
 use Rattle.planner.proofs.Safety.{safe_law, always_fails}
 
 -- ---- the greatest number: b is the event of the greatest of those below m

@@ -2,30 +2,30 @@
 -- Assumes nothing.
 use mathlib.Core.Path.{◌≡◌, refl, sym, ap, ◌∙◌, subst}
 use mathlib.Core.Logic.{◌↔◌}
-use mathlib.Core.Bool.{Bool, true, false, true≢false}
+use mathlib.Core.Bool.{false, true≢false}
 use mathlib.Core.List.{List}
-use Prim.Native.Nat.{ℕ, ◌<◌}
+use Prim.Native.Nat.{ℕ}
 use native.Mathlib.Omega.{arith}
-use lib.ListN.{replicate}
+use Rattle.std.specs.Prelude.{Result, Ok, Err}
 use Rattle.paper.specs.Lists.{In}
 use Rattle.paper.specs.Sets.{Set, none, put, Within}
 use Rattle.paper.specs.Functions.{Fun}
-use Rattle.paper.specs.Planner.{Safe, Accepted, LowestDroppable, FirstMissing, Decides, fails_by, Plans, plan_of}
-use Rattle.paper.specs.Answers.{Beyond}
+use Rattle.paper.specs.Planner.{Safe, Accepted, LowestDroppable, FirstMissing, Decides, fails_by, plan_of}
 use Rattle.algebra.proofs.Base.{three, Three, below, beyond, equal}
 use Rattle.sets.specs.Words.{words, set_of, Array}
 use Rattle.sets.proofs.Words.{words_same}
-use Rattle.remaining.specs.Families.{CutDiagram, family, Cleared}
-use Rattle.remaining.specs.FirstCut.{Room}
+use Rattle.remaining.specs.Families.{CutDiagram, family}
 use Rattle.remaining.proofs.Answering.{family_within}
 use Rattle.remaining.proofs.Once.{first_once, both_sides}
+use Rattle.paper.specs.declared.refusal.Refusal.{Refusal}
+use Rattle.paper.proofs.Refusals.{number_above}
 use Rattle.planner.specs.Saying.{says}
-use Rattle.planner.specs.Checking.{Refuses, Passed, Answers, Checks}
+use Rattle.planner.specs.Checking.{Refusing, Passed, Checks}
 use Rattle.planner.specs.Judged.{Missed, Tells}
 use Rattle.planner.specs.Proposing.{Refused, Stopped, Planned, Proposes}
 use Rattle.planner.specs.declared.Judgement.{Judgement}
-use Rattle.planner.specs.declared.Judgement.TheVariants.{NoDiagram, TooShort, NoSet, Accepts, Misses, Drops}
-use Rattle.planner.proofs.Safety.{safe_law, first_fails, first_unsafe, safe_both, family_decides}
+use Rattle.planner.specs.declared.Judgement.TheVariants.{Accepts, Misses, Drops}
+use Rattle.planner.proofs.Safety.{first_fails, first_unsafe, safe_both, family_decides}
 use Rattle.planner.proofs.Planning.{plan_is, plans_once, plan_safe}
 
 -- ---- of two functions that one family decides
@@ -55,29 +55,27 @@ module _ (n : ℕ) (T : List ℕ) (c root : ℕ) (ws cut W W' : List ℕ) (F : F
   own d = family_decides n (family T root) (family_within d)
 
   -- what is said is so
-  pub check_right : (j : Judgement) → Checks n T c root ws j cut W W' → Tells F n (set_of ws) (family T root) j (set_of cut)
-  check_right NoDiagram x = tt
-  check_right TooShort x = tt
-  check_right NoSet x = tt
-  check_right Accepts x = let d = x.passed.diagram in accepted_both n (family T root) (fails_by n (family T root)) F (family_within d) (own d) decides x.because.0
-  check_right Misses x =
+  pub check_right : (j : Result Judgement Refusal) → Checks n T c root ws j cut W W' → Tells F n (set_of ws) (family T root) j (set_of cut)
+  check_right (Err why) x = tt
+  check_right (Ok Accepts) x = let d = x.passed.diagram in accepted_both n (family T root) (fails_by n (family T root)) F (family_within d) (own d) decides x.because.0
+  check_right (Ok Misses) x =
       let d = x.passed.diagram in
       let (t, a) = first_fails n (family T root) F (family_within d) decides x.because in
       record { first = x.because; sound = a; fails = t }
-  check_right (Drops e) x = let d = x.passed.diagram in dropped_both n (family T root) (fails_by n (family T root)) F (family_within d) (own d) decides x.because.0
+  check_right (Ok (Drops e)) x = let d = x.passed.diagram in dropped_both n (family T root) (fails_by n (family T root)) F (family_within d) (own d) decides x.because.0
 
   -- ACCEPTED EXACTLY IF the root can't fail while the set is sound, whatever else fails, and dropping any one member loses that
-  accepts_if : Passed n T c root ws W → Accepted F (set_of ws) → (j : Judgement) → Checks n T c root ws j cut W W' → j ≡ Accepts
-  accepts_if p a NoDiagram x = absurd (x.because p.diagram)
-  accepts_if p a TooShort x = absurd (x.because.1 p.room)
-  accepts_if p a NoSet x = absurd (p.within x.because.2)
-  accepts_if p a Accepts x = refl
-  accepts_if p a Misses x = absurd (first_unsafe n (family T root) F (family_within p.diagram) decides x.because a.safe)
-  accepts_if p a (Drops e) x = let y = check_right (Drops e) x in absurd (a.needed e y.member y.droppable)
+  accepts_if : Passed n T c root ws W → Accepted F (set_of ws) → (j : Result Judgement Refusal) → Checks n T c root ws j cut W W' → j ≡ (Ok Accepts)
+  accepts_if p a (Err why) (Refusing.no_diagram q x) = absurd (x.because p.diagram)
+  accepts_if p a (Err why) (Refusing.too_short q x) = absurd (x.because.1 p.room)
+  accepts_if p a (Err why) (Refusing.beyond q x) = absurd (p.within x.because.2)
+  accepts_if p a (Ok Accepts) x = refl
+  accepts_if p a (Ok Misses) x = absurd (first_unsafe n (family T root) F (family_within p.diagram) decides x.because a.safe)
+  accepts_if p a (Ok (Drops e)) x = let y = check_right (Ok (Drops e)) x in absurd (a.needed e y.member y.droppable)
 
-  pub accepts_exactly : Passed n T c root ws W → (j : Judgement) → Checks n T c root ws j cut W W' → (j ≡ Accepts) ↔ Accepted F (set_of ws)
+  pub accepts_exactly : Passed n T c root ws W → (j : Result Judgement Refusal) → Checks n T c root ws j cut W W' → (j ≡ (Ok Accepts)) ↔ Accepted F (set_of ws)
   accepts_exactly p j x = (
-    (λ q. check_right Accepts (subst (λ v. Checks n T c root ws v cut W W') q x)),
+    (λ q. check_right (Ok Accepts) (subst (λ v. Checks n T c root ws v cut W W') q x)),
     (λ a. accepts_if p a j x),
   )
 
@@ -95,43 +93,35 @@ module _ (F : Fun) (n : ℕ) (K : Set) (l : List Set) where
   missed_unsafe : {S : Set} → Missed F n K l S → Safe F K → ⊥
   missed_unsafe {S} m s = true≢false (sym m.fails ∙ s S m.sound)
 
-  by_accepted : (S : Set) → Accepted F K → (k : Judgement) → (says k).number ≡ 0 → Tells F n K l k S → Accepts ≡ k
-  by_accepted S a NoDiagram z x = absurd (omega (arith, z))
-  by_accepted S a TooShort z x = absurd (omega (arith, z))
-  by_accepted S a NoSet z x = absurd (omega (arith, z))
-  by_accepted S a Accepts z x = refl
-  by_accepted S a Misses z x = absurd (missed_unsafe x a.safe)
-  by_accepted S a (Drops e) z x = absurd (a.needed e x.member x.droppable)
+  by_accepted : (S : Set) → Accepted F K → (k : Result Judgement Refusal) → (says k).number ≡ 0 → Tells F n K l k S → (Ok Accepts) ≡ k
+  by_accepted S a (Err why) z x = let a = number_above why in absurd (omega (arith, a, z))
+  by_accepted S a (Ok Accepts) z x = refl
+  by_accepted S a (Ok Misses) z x = absurd (missed_unsafe x a.safe)
+  by_accepted S a (Ok (Drops e)) z x = absurd (a.needed e x.member x.droppable)
 
-  by_missed : (R S : Set) → Missed F n K l R → (k : Judgement) → (says k).number ≡ 0 → Tells F n K l k S → Misses ≡ k
-  by_missed R S m NoDiagram z x = absurd (omega (arith, z))
-  by_missed R S m TooShort z x = absurd (omega (arith, z))
-  by_missed R S m NoSet z x = absurd (omega (arith, z))
-  by_missed R S m Accepts z x = absurd (missed_unsafe m x.safe)
-  by_missed R S m Misses z x = refl
-  by_missed R S m (Drops e) z x = absurd (missed_unsafe m x.safe)
+  by_missed : (R S : Set) → Missed F n K l R → (k : Result Judgement Refusal) → (says k).number ≡ 0 → Tells F n K l k S → (Ok Misses) ≡ k
+  by_missed R S m (Err why) z x = let a = number_above why in absurd (omega (arith, a, z))
+  by_missed R S m (Ok Accepts) z x = absurd (missed_unsafe m x.safe)
+  by_missed R S m (Ok Misses) z x = refl
+  by_missed R S m (Ok (Drops e)) z x = absurd (missed_unsafe m x.safe)
 
-  by_dropped : (e : ℕ) (S : Set) → LowestDroppable F K e → (k : Judgement) → (says k).number ≡ 0 → Tells F n K l k S → Drops e ≡ k
-  by_dropped e S d NoDiagram z x = absurd (omega (arith, z))
-  by_dropped e S d TooShort z x = absurd (omega (arith, z))
-  by_dropped e S d NoSet z x = absurd (omega (arith, z))
-  by_dropped e S d Accepts z x = absurd (x.needed e d.member d.droppable)
-  by_dropped e S d Misses z x = absurd (missed_unsafe x d.safe)
-  by_dropped e S d (Drops i) z x = ap Drops (same_drop d x)
+  by_dropped : (e : ℕ) (S : Set) → LowestDroppable F K e → (k : Result Judgement Refusal) → (says k).number ≡ 0 → Tells F n K l k S → Ok (Drops e) ≡ k
+  by_dropped e S d (Err why) z x = let a = number_above why in absurd (omega (arith, a, z))
+  by_dropped e S d (Ok Accepts) z x = absurd (x.needed e d.member d.droppable)
+  by_dropped e S d (Ok Misses) z x = absurd (missed_unsafe x d.safe)
+  by_dropped e S d (Ok (Drops i)) z x = ap (λ i. Ok (Drops i)) (same_drop d x)
 
-  pub right_once : (R S : Set) (j k : Judgement) → (says j).number ≡ 0 → (says k).number ≡ 0 → Tells F n K l j R → Tells F n K l k S → j ≡ k
-  right_once R S NoDiagram k y z r s = absurd (omega (arith, y))
-  right_once R S TooShort k y z r s = absurd (omega (arith, y))
-  right_once R S NoSet k y z r s = absurd (omega (arith, y))
-  right_once R S Accepts k y z r s = by_accepted S r k z s
-  right_once R S Misses k y z r s = by_missed R S r k z s
-  right_once R S (Drops e) k y z r s = by_dropped e S r k z s
+  pub right_once : (R S : Set) (j k : Result Judgement Refusal) → (says j).number ≡ 0 → (says k).number ≡ 0 → Tells F n K l j R → Tells F n K l k S → j ≡ k
+  right_once R S (Err why) k y z r s = let a = number_above why in absurd (omega (arith, a, y))
+  right_once R S (Ok Accepts) k y z r s = by_accepted S r k z s
+  right_once R S (Ok Misses) k y z r s = by_missed R S r k z s
+  right_once R S (Ok (Drops e)) k y z r s = by_dropped e S r k z s
 
 -- ---- ONE OUTCOME
 
 -- all that a check answers and leaves
 pub record Outcome : Type 0 where
-  pub judgement : Judgement
+  pub judgement : Result Judgement Refusal
   pub cut : List ℕ
   pub area : List ℕ
 
@@ -141,7 +131,7 @@ pub record Allowed (n : ℕ) (T : List ℕ) (c root : ℕ) (ws W : List ℕ) (x 
   pub answer : Checks n T c root ws x.judgement x.cut W x.area
 
 module _ (n : ℕ) (T : List ℕ) (c root : ℕ) (ws W p q x y : List ℕ) (a : Array words p) (b : Array words q) where
-  abbrev Same : Judgement → Judgement → Type 0
+  abbrev Same : Result Judgement Refusal → Result Judgement Refusal → Type 0
   Same j k = (j ≡ k) × (p ≡ q) × (x ≡ y)
 
   unsafe : CutDiagram n T c root → FirstMissing n (set_of ws) (family T root) (set_of p) → Safe (fails_by n (family T root)) (set_of ws) → ⊥
@@ -150,43 +140,40 @@ module _ (n : ℕ) (T : List ℕ) (c root : ℕ) (ws W p q x y : List ℕ) (a : 
   unsafe' : CutDiagram n T c root → FirstMissing n (set_of ws) (family T root) (set_of q) → Safe (fails_by n (family T root)) (set_of ws) → ⊥
   unsafe' d f s = first_unsafe n (family T root) (fails_by n (family T root)) (family_within d) (family_decides n (family T root) (family_within d)) f s
 
-  once : (j k : Judgement) → Checks n T c root ws j p W x → Checks n T c root ws k q W y → Same j k
-  once NoDiagram NoDiagram u v = (refl, u.no_cut ∙ sym v.no_cut, u.area ∙ sym v.area)
-  once NoDiagram TooShort u v = absurd (u.because v.because.0)
-  once NoDiagram NoSet u v = absurd (u.because v.because.0)
-  once NoDiagram Accepts u v = absurd (u.because v.passed.diagram)
-  once NoDiagram Misses u v = absurd (u.because v.passed.diagram)
-  once NoDiagram (Drops i) u v = absurd (u.because v.passed.diagram)
-  once TooShort NoDiagram u v = absurd (v.because u.because.0)
-  once TooShort TooShort u v = (refl, u.no_cut ∙ sym v.no_cut, u.area ∙ sym v.area)
-  once TooShort NoSet u v = absurd (u.because.1 v.because.1)
-  once TooShort Accepts u v = absurd (u.because.1 v.passed.room)
-  once TooShort Misses u v = absurd (u.because.1 v.passed.room)
-  once TooShort (Drops i) u v = absurd (u.because.1 v.passed.room)
-  once NoSet NoDiagram u v = absurd (v.because u.because.0)
-  once NoSet TooShort u v = absurd (v.because.1 u.because.1)
-  once NoSet NoSet u v = (refl, u.no_cut ∙ sym v.no_cut, u.area ∙ sym v.area)
-  once NoSet Accepts u v = absurd (v.passed.within u.because.2)
-  once NoSet Misses u v = absurd (v.passed.within u.because.2)
-  once NoSet (Drops i) u v = absurd (v.passed.within u.because.2)
-  once Accepts NoDiagram u v = absurd (v.because u.passed.diagram)
-  once Accepts TooShort u v = absurd (v.because.1 u.passed.room)
-  once Accepts NoSet u v = absurd (u.passed.within v.because.2)
-  once Accepts Accepts u v = (refl, u.because.1 ∙ sym v.because.1, u.area ∙ sym v.area)
-  once Accepts Misses u v = absurd (unsafe' v.passed.diagram v.because u.because.0.safe)
-  once Accepts (Drops i) u v = absurd (u.because.0.needed i v.because.0.member v.because.0.droppable)
-  once Misses NoDiagram u v = absurd (v.because u.passed.diagram)
-  once Misses TooShort u v = absurd (v.because.1 u.passed.room)
-  once Misses NoSet u v = absurd (u.passed.within v.because.2)
-  once Misses Accepts u v = absurd (unsafe u.passed.diagram u.because v.because.0.safe)
-  once Misses Misses u v = (refl, words_same a b (first_once u.because v.because), u.area ∙ sym v.area)
-  once Misses (Drops i) u v = absurd (unsafe u.passed.diagram u.because v.because.0.safe)
-  once (Drops e) NoDiagram u v = absurd (v.because u.passed.diagram)
-  once (Drops e) TooShort u v = absurd (v.because.1 u.passed.room)
-  once (Drops e) NoSet u v = absurd (u.passed.within v.because.2)
-  once (Drops e) Accepts u v = absurd (v.because.0.needed e u.because.0.member u.because.0.droppable)
-  once (Drops e) Misses u v = absurd (unsafe' v.passed.diagram v.because u.because.0.safe)
-  once (Drops e) (Drops i) u v = (ap Drops (same_drop u.because.0 v.because.0), u.because.1 ∙ sym v.because.1, u.area ∙ sym v.area)
+  -- no refusal is due where another judgement is passed
+  refused_passed : {why : Refusal} {cut V : List ℕ} → Refusing n T c root ws why cut W V → Passed n T c root ws W → ⊥
+  refused_passed (Refusing.no_diagram _ x) p = x.because p.diagram
+  refused_passed (Refusing.too_short _ x) p = x.because.1 p.room
+  refused_passed (Refusing.beyond _ x) p = p.within x.because.2
+
+  refuses_once : (v w : Refusal) → Refusing n T c root ws v p W x → Refusing n T c root ws w q W y → Same (Err v) (Err w)
+  refuses_once v w (Refusing.no_diagram d u) (Refusing.no_diagram e r) = (ap Err (d ∙ sym e), u.no_cut ∙ sym r.no_cut, u.area ∙ sym r.area)
+  refuses_once v w (Refusing.no_diagram d u) (Refusing.too_short e r) = absurd (u.because r.because.0)
+  refuses_once v w (Refusing.no_diagram d u) (Refusing.beyond e r) = absurd (u.because r.because.0)
+  refuses_once v w (Refusing.too_short d u) (Refusing.no_diagram e r) = absurd (r.because u.because.0)
+  refuses_once v w (Refusing.too_short d u) (Refusing.too_short e r) = (ap Err (d ∙ sym e), u.no_cut ∙ sym r.no_cut, u.area ∙ sym r.area)
+  refuses_once v w (Refusing.too_short d u) (Refusing.beyond e r) = absurd (u.because.1 r.because.1)
+  refuses_once v w (Refusing.beyond d u) (Refusing.no_diagram e r) = absurd (r.because u.because.0)
+  refuses_once v w (Refusing.beyond d u) (Refusing.too_short e r) = absurd (r.because.1 u.because.1)
+  refuses_once v w (Refusing.beyond d u) (Refusing.beyond e r) = (ap Err (d ∙ sym e), u.no_cut ∙ sym r.no_cut, u.area ∙ sym r.area)
+
+  once : (j k : Result Judgement Refusal) → Checks n T c root ws j p W x → Checks n T c root ws k q W y → Same j k
+  once (Err v) (Err w) u r = refuses_once v w u r
+  once (Err v) (Ok Accepts) u r = absurd (refused_passed u r.passed)
+  once (Err v) (Ok Misses) u r = absurd (refused_passed u r.passed)
+  once (Err v) (Ok (Drops i)) u r = absurd (refused_passed u r.passed)
+  once (Ok Accepts) (Err w) u r = absurd (refused_passed r u.passed)
+  once (Ok Misses) (Err w) u r = absurd (refused_passed r u.passed)
+  once (Ok (Drops i)) (Err w) u r = absurd (refused_passed r u.passed)
+  once (Ok Accepts) (Ok Accepts) u v = (refl, u.because.1 ∙ sym v.because.1, u.area ∙ sym v.area)
+  once (Ok Accepts) (Ok Misses) u v = absurd (unsafe' v.passed.diagram v.because u.because.0.safe)
+  once (Ok Accepts) (Ok (Drops i)) u v = absurd (u.because.0.needed i v.because.0.member v.because.0.droppable)
+  once (Ok Misses) (Ok Accepts) u v = absurd (unsafe u.passed.diagram u.because v.because.0.safe)
+  once (Ok Misses) (Ok Misses) u v = (refl, words_same a b (first_once u.because v.because), u.area ∙ sym v.area)
+  once (Ok Misses) (Ok (Drops i)) u v = absurd (unsafe u.passed.diagram u.because v.because.0.safe)
+  once (Ok (Drops e)) (Ok Accepts) u v = absurd (v.because.0.needed e u.because.0.member u.because.0.droppable)
+  once (Ok (Drops e)) (Ok Misses) u v = absurd (unsafe' v.passed.diagram v.because u.because.0.safe)
+  once (Ok (Drops e)) (Ok (Drops i)) u v = (ap (λ i. Ok (Drops i)) (same_drop u.because.0 v.because.0), u.because.1 ∙ sym v.because.1, u.area ∙ sym v.area)
 
 pub check_once : {n : ℕ} {T : List ℕ} {c root : ℕ} {ws W : List ℕ} {x y : Outcome} → Allowed n T c root ws W x → Allowed n T c root ws W y → x ≡ y
 check_once {n} {T} {c} {root} {ws} {W} {x} {y} p q =

@@ -11,8 +11,8 @@ use borrow.Author.Tests.{eqb-false}
 use Rattle.paper.specs.Lists.{In, keep}
 use Rattle.paper.specs.Sets.{Set, none, put, Part, part_of, Within}
 use Rattle.paper.specs.Functions.{Fun, Monotone}
-use Rattle.paper.specs.Planner.{Apart, Safe, Accepted, LowestDroppable, misses, remaining, FirstMissing, Decides, fails_by}
-use Rattle.algebra.proofs.Base.{eqb_or, put_same, put_other, three, Three, below, beyond, equal}
+use Rattle.paper.specs.Planner.{Apart, Safe, Accepted, misses, remaining, FirstMissing, Decides, fails_by}
+use Rattle.algebra.proofs.Base.{eqb_or, three, Three, below, beyond, equal}
 use Rattle.algebra.proofs.Lists.{in_keep, keep_none}
 use Rattle.algebra.proofs.Sets.{not_true}
 use Rattle.remaining.proofs.Missing.{both_true, misses_apart, apart_misses}

@@ -4,22 +4,21 @@ use mathlib.Core.Path.{◌≡◌, refl, sym, ap, ◌∙◌, subst}
 use mathlib.Core.Logic.{◌≢◌}
 use mathlib.Core.Bool.{true, false, true≢false, false≢true}
 use mathlib.Core.List.{List}
-use Prim.Native.Nat.{ℕ, zero, suc, ◌+◌, ◌≤◌, ◌<◌}
+use Prim.Native.Nat.{ℕ, ◌+◌, ◌≤◌, ◌<◌}
 use native.Mathlib.Decide.{ℕ_discrete}
 use native.Mathlib.Omega.{arith}
 use lib.ListN.{length, get_or, replicate, length-replicate}
 use Rattle.paper.specs.Limits.{limits}
 use Rattle.paper.specs.Sets.{Set, none, put, Within}
-use Rattle.paper.specs.Sizes.{largest}
 use Rattle.paper.specs.Planner.{holding, Chosen, Plans, ends, takes}
 use Rattle.paper.specs.Answers.{Beyond}
 use Rattle.algebra.proofs.Base.{put_other}
 use Rattle.sets.specs.Words.{words, set_of}
 use Rattle.sets.proofs.Words.{empty_none}
-use Rattle.remaining.specs.Families.{CutDiagram, family, Cleared}
+use Rattle.remaining.specs.Families.{CutDiagram, family}
 use Rattle.remaining.specs.Tallies.{Enough, Fits, TooMany, Tallied, Summed, Holding}
 use Rattle.remaining.proofs.Answering.{few_events}
-use Rattle.planner.specs.Taking.{Most, Better, Taking}
+use Rattle.planner.specs.Taking.{Most, Taking}
 use Rattle.planner.specs.Proposing.{Areas, Proposes, no_diagram, too_short, too_many, planned}
 use Rattle.planner.proofs.Planning.{outside, outside_falls, fresh, counts_fall}
 
@@ -53,13 +52,6 @@ most_kept {C} {i} {b} m h = record {
     one : (j : ℕ) → j < i + 1 → Dec (j ≡ i) → get_or C j 0 ≤ get_or C b 0
     one j x (yes e) = let q = ap (λ y. get_or C y 0) e in omega (arith, q, h)
     one j x (no d) = m.most j (omega (arith, x, d))
-
--- the better of two
-pub better_next : {C : List ℕ} {i b : ℕ} → get_or C b 0 < get_or C i 0 → Better C i b i
-better_next h m = most_next m h
-
-pub better_kept : {C : List ℕ} {i b : ℕ} → get_or C i 0 ≤ get_or C b 0 → Better C i b b
-better_kept h m = most_kept m h
 
 pub most_end : {C : List ℕ} {i n b : ℕ} → Most C i b → n ≤ i → i ≤ n → Most C n b
 most_end {C} {i} {n} {b} m p q = let e : i ≡ n = omega arith in subst (λ k. Most C k b) e m
@@ -152,19 +144,17 @@ module _ {n : ℕ} {T : List ℕ} {c root : ℕ} {ws : List ℕ} {number place :
 
   module _ (empty : ws ≡ replicate words 0) where
     -- a refusal of the counting of all cuts is the planner's
-    pub plan_refused : {set : List ℕ} {k p : ℕ} → Holding n T c root ws number place C B W C' B' W' → limits.events ≤ length C → number ≢ 0
-        → (k ≡ number) × (p ≡ 0) × (set ≡ replicate words 0) → Proposes n T c root k p set B W B' W'
-    plan_refused (Holding.no_diagram x u) long h r =
-        no_diagram x (record { number_is = r.0 ∙ u.number_is; no_place = r.1; empty_set = r.2; below = u.below; ways = u.ways })
-    plan_refused (Holding.too_short v x u) long h r =
+    pub plan_refused : Holding n T c root ws number place C B W C' B' W' → limits.events ≤ length C → number ≢ 0 → Proposes n T c root number 0 (replicate words 0) B W B' W'
+    plan_refused (Holding.no_diagram x u) long h = no_diagram x (record { number_is = u.number_is; no_place = refl; empty_set = refl; below = u.below; ways = u.ways })
+    plan_refused (Holding.too_short v x u) long h =
         let few = few_events v in
         too_short v (λ a. x (record { counts = omega (arith, few, long); below = a.below; ways = a.ways }))
-        (record { number_is = r.0 ∙ u.number_is; no_place = r.1; empty_set = r.2; below = u.below; ways = u.ways })
-    plan_refused (Holding.beyond v g x u) long h r = absurd (false≢true (sym (ap (λ A. A x.event) (no_set ws empty)) ∙ x.is))
-    plan_refused (Holding.summed v g x (Summed.over m s)) long h r =
+        (record { number_is = u.number_is; no_place = refl; empty_set = refl; below = u.below; ways = u.ways })
+    plan_refused (Holding.beyond v g x u) long h = absurd (false≢true (sym (ap (λ A. A x.event) (no_set ws empty)) ∙ x.is))
+    plan_refused (Holding.summed v g x (Summed.over m s)) long h =
         too_many v (record { below = g.below; ways = g.ways }) (subst (λ A. TooMany n A (family T root)) (no_set ws empty) m)
-        (record { number_is = r.0 ∙ s.number_is; no_place = r.1; empty_set = r.2; below = s.below; ways = s.ways })
-    plan_refused (Holding.summed v g x (Summed.exact f t)) long h r = absurd (h t.number_is)
+        (record { number_is = s.number_is; no_place = refl; empty_set = refl; below = s.below; ways = s.ways })
+    plan_refused (Holding.summed v g x (Summed.exact f t)) long h = absurd (h t.number_is)
 
     -- number 0: the taking can start
     pub plan_start : Holding n T c root ws number place C B W C' B' W' → number ≡ 0 → Taking n T c root C' B' W' × Areas T B W

@@ -4,3 +4,4 @@ pub mod Checking
 pub mod Judged
 pub mod Taking
 pub mod Proposing
+pub mod Answers

@@ -1,6 +1,6 @@
 -- Taking events: the greatest of some counts, and what the taking starts from.
 -- Assumes nothing.
-use Rattle.std.specs.Prelude.{◌≡◌, List, ℕ, ◌+◌, ◌≤◌, ◌<◌, get_or}
+use Rattle.std.specs.Prelude.{◌≡◌, List, ℕ, ◌≤◌, ◌<◌, get_or}
 use Rattle.paper.specs.Sets.{none}
 use Rattle.paper.specs.Planner.{holding}
 use Rattle.remaining.specs.Families.{CutDiagram, family, Cleared}
@@ -11,10 +11,6 @@ pub record Most (C : List ℕ) (n r : ℕ) : Type 0 where
   pub event : r < n
   pub most : (i : ℕ) → i < n → get_or C i 0 ≤ get_or C r 0
   pub lowest : (i : ℕ) → i < r → get_or C i 0 < get_or C r 0
-
--- of b, the best below i, and i itself, r is the better
-abbrev pub Better : List ℕ → ℕ → ℕ → ℕ → Type 0
-Better C i b r = Most C i b → Most C (i + 1) r
 
 -- the counts of all cuts, each of which can be answered, and areas of zeros
 pub record Taking (n : ℕ) (T : List ℕ) (c root : ℕ) (C B W : List ℕ) : Type 0 where

@@ -4,18 +4,7 @@ ghost use Rattle.paper.specs.Sets.{none};
 ghost use Rattle.paper.specs.Planner.{Plans};
 ghost use Rattle.sets.specs.Words.{words, set_of};
 ghost use Rattle.remaining.specs.Families.{family};
-ghost use Rattle.planner.specs.Taking.{Most, Better, Taking};
-
-// Of the best event below `i` and `i` itself: the one with the greater count, the lower one of two equal counts.
-fn better(counts: &[u64], best: usize, i: usize) -> usize
-    requires { (best < length counts.now) × (i < length counts.now) }
-    ensures { Better counts.now i best result }
-{
-    if counts[best] < counts[i] {
-        return i;
-    }
-    best
-}
+ghost use Rattle.planner.specs.Taking.{Most, Taking};
 
 // The event with the greatest count, the lowest such.
 fn most(counts: &[u64], n: usize) -> usize
@@ -23,10 +12,10 @@ fn most(counts: &[u64], n: usize) -> usize
     ensures { Most counts.now n result }
 {
     let mut best = 0;
-    let mut i = 1;
-    while i < n {
-        best = better(counts, best, i);
-        i += 1;
+    for i in 1..n {
+        if counts[best] < counts[i] {
+            best = i;
+        }
     }
     best
 }
@@ -48,7 +37,9 @@ pub fn take_all(
     let mut e = most(counts, events);
     while counts[e] != 0 {
         sets::add(&mut set, e);
-        let t = remaining::holding(cuts, events, count, root, set, counts, below, ways);
+        let Ok(()) = remaining::holding(cuts, events, count, root, set, counts, below, ways) else {
+            unreachable!();
+        };
         e = most(counts, events);
     }
     set

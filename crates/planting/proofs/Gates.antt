@@ -3,11 +3,11 @@
 use mathlib.Core.Path.{◌≡◌, refl, sym, ◌∙◌}
 use mathlib.Core.Bool.{Bool, true, false, cond}
 use mathlib.Core.List.{List}
-use Prim.Native.Nat.{ℕ, ◌+◌, ◌≤◌, ◌<◌}
+use Prim.Native.Nat.{ℕ, ◌≤◌, ◌<◌}
 use native.Mathlib.Omega.{arith}
 use lib.Dec.{leb, ltb, eqb}
 use lib.ListN.{length}
-use borrow.Author.Tests.{lt-ltb, le-ltb, le-leb, lt-leb, eq-eqb, ne_eqb, eqb-true, eqb-false, ltb-false}
+use borrow.Author.Tests.{lt-ltb, le-ltb, eq-eqb, ne_eqb, eqb-true, eqb-false, ltb-false}
 use Rattle.paper.specs.Limits.{limits}
 use Rattle.paper.specs.Trees.{Input, Gate, and_g, or_g, least_g, distinct_inputs}
 use Rattle.paper.specs.Flat.{gate_of}
@@ -19,20 +19,6 @@ use Rattle.planting.specs.Planting.{LeastTold, GateTold, LeastKept}
 -- ---- too many
 
 module _ (g used n : ℕ) where
-  pub many_gates : limits.gates ≤ g → true ≡ too_many limits g used n
-  many_gates h = rw (le-leb 512 g h)
-
-  module _ (few : g < limits.gates) where
-    pub no_inputs : n ≡ 0 → true ≡ too_many limits g used n
-    no_inputs e = rw (lt-leb 512 g few, eq-eqb n 0 e)
-
-    module _ (some : n ≡ 0 → ⊥) where
-      pub many_inputs : limits.inputs < n → true ≡ too_many limits g used n
-      many_inputs h = rw (lt-leb 512 g few, ne_eqb n 0 some, lt-ltb 64 n h)
-
-      pub inputs_in_all : n ≤ limits.inputs → ltb limits.in_all (used + n) ≡ too_many limits g used n
-      inputs_in_all h = rw (lt-leb 512 g few, ne_eqb n 0 some, le-ltb 64 n h)
-
   -- a gate that is not too many has no more inputs than a gate may have
   pub not_many : too_many limits g used n ≡ false → n ≤ limits.inputs
   not_many e =

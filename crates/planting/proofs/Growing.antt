@@ -15,6 +15,7 @@ use Rattle.paper.specs.Importing.{or_else, inputs_to, events_break, gate_breaks,
 use Rattle.twins.proofs.Firsts.{firsts_length}
 use Rattle.rules.proofs.Cases.{either}
 use Rattle.records.specs.Memory.{pad, memory}
+use Rattle.records.specs.declared.Event.{Event}
 use Rattle.records.specs.Flattened.{kind_of, least_of, size_of, code_of, codes_of, event_of, book_of}
 use Rattle.records.proofs.Lists.{map_length, map_append, flat_append}
 use Rattle.records.proofs.Pad.{pad_fill}
@@ -24,9 +25,12 @@ use Rattle.records.proofs.Breaks as breaks
 use Rattle.records.proofs.Flattened.{codes_sum, least_right}
 use Rattle.depthfirst.specs.Inputs.{inputs_of}
 use Rattle.planting.specs.Orders.{input_at, gate_at, chances_among, gates_among, Sowable, Plantable}
-use Rattle.planting.specs.Planting.{Sows, GatesIn, Plants, PlantsOver, Refuses, GateTold, LeastKept, Putable, Puts, Sortable, DistinctTold}
+use Rattle.paper.specs.Refusals.{number}
+use Rattle.paper.specs.declared.refusal.Refusal.{Refusal}
+use Rattle.paper.proofs.Refusals.{number_above}
+use Rattle.planting.specs.Planting.{EventsIn, GatesIn, Plants, PlantsOver, GateTold, LeastKept, Putable, Puts, Sortable, DistinctTold}
 use Rattle.planting.specs.declared.Sown.{Sown}
-use Rattle.planting.specs.declared.Planted.{Planted}
+use Rattle.std.specs.Prelude.{Ok, Err}
 use Rattle.planting.proofs.Orders.{one_more, the_rest, name_in, none_event, some_gate, events_append, gates_append, in_events, in_gates, turn_low, gates_event, gates_gate, gates_among_append}
 use Rattle.planting.proofs.Gates.{gate_inputs, gate_kind}
 
@@ -156,21 +160,17 @@ module _ {S I : List ℕ} {n : ℕ} {Q : List ℕ} {left : ℕ} {N K L : List �
               ∙ ap (λ k. gates_break limits k (0 + sum (map size_of (X i))) (gate_at S I N K L x ∷ [])) p
               ∙ ap (λ k. gates_break limits g k (gate_at S I N K L x ∷ [])) q ∙ one_gate
 
-          pub grown_broken : 0 < m → (e : Sown) {r : Planted} → Refuses m r → PlantsOver e (X left) r
+          pub grown_broken : (why : Refusal) → number why ≡ m → (e : Sown) → PlantsOver e (X left) (Err why)
           unfolding broken
-          grown_broken h e v C f =
+          grown_broken why told_why e C f =
               let rest : List ℕ = drop (i + 1) (take left Q) in
               let split : X left ≡ X (i + 1) ++ gates_among S I N K L rest =
               ap (gates_among S I N K L) (let k : i + 1 ≤ left = omega arith in the_rest Q k) ∙ gates_among_append S I N K L (take (i + 1) Q) rest in
               let later : ℕ = gates_break limits (0 + length (X (i + 1))) (0 + sum (map size_of (X (i + 1)))) (gates_among S I N K L rest) in
               let one : gates_break limits 0 0 (X left) ≡ m =
               ap (gates_break limits 0 0) split ∙ breaks.gates_append limits (X (i + 1)) (gates_among S I N K L rest) 0 0
-              ∙ ap (λ k. or_else k later) breaks_next ∙ or_else_some m later h in
-              record {
-                number = v.number ∙ sym one ∙ sym (or_else_none (events_break limits 0 C) (gates_break limits 0 0 (X left)) f.within);
-                done = λ z. absurd (omega (arith, v.number));
-                empty = λ _. v.tree;
-              }
+              ∙ ap (λ k. or_else k later) breaks_next ∙ or_else_some m later (omega (arith, number_above why, told_why)) in
+              told_why ∙ sym one ∙ sym (or_else_none (events_break limits 0 C) (gates_break limits 0 0 (X left)) f.within)
 
           module _ (none : m ≤ 0) where
             within_next : gates_break limits 0 0 (X (i + 1)) ≡ 0
@@ -231,26 +231,22 @@ module _ {S I : List ℕ} {n : ℕ} {Q : List ℕ} {left : ℕ} {N K L : List �
   -- ---- at the end
 
   pub grown_all : {i g used : ℕ} {ks ls ns is : List ℕ} → i ≤ left → left ≤ i → GatesIn (X i) g used ks ls ns is → (e : Sown)
-      → PlantsOver e (X left) (record {
-        number = 0;
-        tree = record {
-          events = e.events;
-          event_count = e.count;
-          sited = false;
-          kinds = ks;
-          leasts = ls;
-          sizes = ns;
-          gate_count = g;
-          inputs = is;
-        };
-      })
+      → PlantsOver e (X left) (Ok (record {
+        events = e.events;
+        event_count = e.count;
+        sited = false;
+        kinds = ks;
+        leasts = ls;
+        sizes = ns;
+        gate_count = g;
+        inputs = is;
+      }))
   unfolding broken memory book_of
   grown_all {i} {g} {used} {ks} {ls} {ns} {is} l m w e C f =
       let q : i ≡ left = omega arith in
-      let v : GatesIn (X left) g used ks ls ns is = subst (λ j. GatesIn (X j) g used ks ls ns is) q w in
-      record {
-        number = sym (or_else_none (events_break limits 0 C) (gates_break limits 0 0 (X left)) f.within ∙ v.within);
-        done = λ _ j. record {
+      let v : GatesIn (X left) g used ks ls ns is = subst (λ j. GatesIn (X j) g used ks ls ns is) q w in (
+        or_else_none (events_break limits 0 C) (gates_break limits 0 0 (X left)) f.within ∙ v.within,
+        λ j. record {
           events = f.is j;
           event_count = (f.count ∙ sym (map_length event_of C)) j;
           sited = false;
@@ -259,26 +255,15 @@ module _ {S I : List ℕ} {n : ℕ} {Q : List ℕ} {left : ℕ} {N K L : List �
           sizes = v.sizes j;
           gate_count = (v.count ∙ sym (map_length size_of (X left))) j;
           inputs = v.inputs j;
-        };
-        empty = λ z. absurd (z refl);
-      }
+        },
+      )
 
 -- ---- events, then gates
 
-module _ {C : List ℕ} {e : Sown} (s : Sows C e) where
-  pub plants_events : (X : List Gate) → 0 < e.number → {r : Planted} → Refuses e.number r → Plants (record { chances = C; gates = X }) r
-  unfolding broken
-  plants_events X h v = record {
-    number = v.number ∙ s.number ∙ sym (or_else_some (events_break limits 0 C) (gates_break limits 0 0 X) (omega (arith, s.number)));
-    done = λ z. absurd (omega (arith, v.number));
-    empty = λ _. v.tree;
-  }
+pub plants_events : (C : List ℕ) (why : Refusal) (X : List Gate) → number why ≡ events_break limits 0 C → Plants (record { chances = C; gates = X }) (Err why)
+unfolding broken
+plants_events C why X s = s ∙ sym (or_else_some (events_break limits 0 C) (gates_break limits 0 0 X) (omega (arith, s, number_above why)))
 
-  pub plants_gates : {X : List Gate} → e.number ≤ 0 → {r : Planted} → PlantsOver e X r → Plants (record { chances = C; gates = X }) r
-  plants_gates h p = p C (s.done (omega arith))
-
-pub sown_few_events : (S I G l : List ℕ) {e : Sown} → Sows (chances_among S I G l) e → e.number ≤ 0 → length (events_of (inputs_of S I) l) ≤ limits.events
+pub sown_few_events : (S I G l : List ℕ) {e : ℕ} {evs : List Event} → EventsIn (chances_among S I G l) e evs → length (events_of (inputs_of S I) l) ≤ limits.events
 unfolding chances_among
-sown_few_events S I G l s h =
-    let within : events_break limits 0 (chances_among S I G l) ≡ 0 = omega (arith, s.number) in
-    omega (arith, events_few limits (chances_among S I G l) 0 within (omega arith), map_length (λ x. get_or G x 0) (events_of (inputs_of S I) l))
+sown_few_events S I G l w = omega (arith, events_few limits (chances_among S I G l) 0 w.within (omega arith), map_length (λ x. get_or G x 0) (events_of (inputs_of S I) l))

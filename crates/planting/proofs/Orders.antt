@@ -46,10 +46,6 @@ event_told {S} {I} {n} {x} a h =
 
 -- ---- how many inputs a name has
 
-pub size_none : {S I : List ℕ} {n x : ℕ} → Arrays S I n → x < n → get_or S (x + 1) 0 < get_or S x 0 → 0 ≡ length (inputs_of S I x)
-unfolding inputs_of
-size_none {S} {I} {n} {x} a h k = omega (arith, length-slice (get_or S x 0) (get_or S (x + 1) 0) I (a.inside x h))
-
 pub size_some : {S I : List ℕ} {n x : ℕ} → Arrays S I n → x < n → get_or S (x + 1) 0 - get_or S x 0 ≡ length (inputs_of S I x)
 unfolding inputs_of
 size_some {S} {I} {n} {x} a h = sym (length-slice (get_or S x 0) (get_or S (x + 1) 0) I (a.inside x h))

@@ -18,7 +18,11 @@ use Rattle.records.proofs.Pad.{pad_fill}
 use Rattle.records.proofs.Breaks.{or_else_none, or_else_some, events_append, events_few}
 use Rattle.depthfirst.specs.Inputs.{inputs_of}
 use Rattle.planting.specs.Orders.{chances_among, Sowable}
+use Rattle.paper.specs.Refusals.{number}
+use Rattle.paper.specs.declared.refusal.Refusal.{Refusal}
+use Rattle.paper.proofs.Refusals.{number_above}
 use Rattle.planting.specs.Planting.{EventsIn, Sows}
+use Rattle.std.specs.Prelude.{Ok, Err}
 use Rattle.planting.proofs.Orders.{one_more, the_rest, name_in, chances_append, chances_event, chances_gate}
 
 -- ---- one event's limits
@@ -68,15 +72,15 @@ module _ {S I : List ℕ} {n : ℕ} {Q : List ℕ} {left : ℕ} {G : List ℕ} (
             ap (events_break limits 0) longer ∙ events_append limits (C i) (get_or G x 0 ∷ []) 0 ∙ or_else_none _ _ w.within
             ∙ ap (λ k. events_break limits k (get_or G x 0 ∷ [])) p ∙ sym judged
 
-        pub sown_broken : 0 < m → Sows (C left) (record { number = m; count = 0; events = evs })
-        sown_broken h =
+        pub sown_broken : (why : Refusal) → number why ≡ m → Sows (C left) (Err why)
+        sown_broken why told_why =
             let rest : List ℕ = drop (i + 1) (take left Q) in
             let split : C left ≡ C (i + 1) ++ chances_among S I G rest = ap (chances_among S I G) (let k : i + 1 ≤ left = omega arith in the_rest Q k) ∙ chances_append S I G (take (i + 1) Q) rest in
             let later : ℕ = events_break limits (0 + length (C (i + 1))) (chances_among S I G rest) in
             let one : events_break limits 0 (C left) ≡ m =
             ap (events_break limits 0) split ∙ events_append limits (C (i + 1)) (chances_among S I G rest) 0
-            ∙ ap (λ k. or_else k later) breaks_next ∙ or_else_some m later h in
-            record { number = sym one; done = λ z. absurd (omega arith) }
+            ∙ ap (λ k. or_else k later) breaks_next ∙ or_else_some m later (omega (arith, number_above why, told_why)) in
+            told_why ∙ sym one
 
         module _ (none : m ≤ 0) where
           within_next : events_break limits 0 (C (i + 1)) ≡ 0
@@ -94,7 +98,7 @@ module _ {S I : List ℕ} {n : ℕ} {Q : List ℕ} {left : ℕ} {G : List ℕ} (
                 ∙ ap (pad limits.events no_event) (sym (map_append event_of (C i) (get_or G x 0 ∷ [])) ∙ ap (map event_of) (sym longer));
           }
 
-  pub sown_all : {i e : ℕ} {evs : List Event} → i ≤ left → left ≤ i → EventsIn (C i) e evs → Sows (C left) (record { number = 0; count = e; events = evs })
+  pub sown_all : {i e : ℕ} {evs : List Event} → i ≤ left → left ≤ i → EventsIn (C i) e evs → Sows (C left) (Ok (record { count = e; events = evs }))
   sown_all {i} {e} {evs} l m w =
       let q : left ≡ i = omega arith in
-      rw q (record { number = sym w.within; done = λ _. w })
+      rw q w

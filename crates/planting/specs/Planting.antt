@@ -1,19 +1,20 @@
--- What planting answers: the number of the first limit that is broken, 0 where none is.
+-- What planting answers: Err with the first limit that is broken, Ok where none is.
 -- Assumes nothing.
-use Rattle.std.specs.Prelude.{◌≡◌, List, map, ◌++◌, ℕ, ◌+◌, ◌<◌, ◌≤◌, length, get_or}
+use Rattle.std.specs.Prelude.{◌≡◌, Result, Ok, Err, List, map, ◌++◌, ℕ, ◌+◌, ◌<◌, ◌≤◌, length, get_or}
 use Rattle.paper.specs.Limits.{limits}
 use Rattle.paper.specs.Lists.{In, flat, sum}
 use Rattle.paper.specs.Trees.{Input, Gate, distinct_inputs, Tree}
 use Rattle.paper.specs.Flat.{gate_of}
+use Rattle.paper.specs.Refusals.{number}
+use Rattle.paper.specs.declared.refusal.Refusal.{Refusal}
 use Rattle.paper.specs.Importing.{events_break, least_breaks, gate_breaks, gates_break, broken}
-use Rattle.records.specs.Judge.{start}
 use Rattle.records.specs.Memory.{pad, no_event, memory}
 use Rattle.records.specs.Flattened.{kind_of, least_of, size_of, code_of, codes_of, event_of, book_of}
 use Rattle.records.specs.declared.Event.{Event}
 use Rattle.depthfirst.specs.Inputs.{inputs_of, Arrays}
 use Rattle.planting.specs.Orders.{input_at}
 use Rattle.planting.specs.declared.Sown.{Sown}
-use Rattle.planting.specs.declared.Planted.{Planted}
+use Rattle.records.specs.declared.Tree.{Tree as Built}
 
 -- the events of these chances, so many, fill the array from the front, and break no limit
 pub record EventsIn (C : List ℕ) (e : ℕ) (events : List Event) : Type 0 where
@@ -21,10 +22,10 @@ pub record EventsIn (C : List ℕ) (e : ℕ) (events : List Event) : Type 0 wher
   pub count : e ≡ length C
   pub is : events ≡ pad limits.events no_event (map event_of C)
 
--- the number of the first limit that these events break, and where it is 0 the events
-pub record Sows (C : List ℕ) (r : Sown) : Type 0 where
-  pub number : r.number ≡ events_break limits 0 C
-  pub done : r.number ≡ 0 → EventsIn C r.count r.events
+-- the first limit that these events break, by its number, else the events
+abbrev pub Sows : List ℕ → Result Sown Refusal → Type 0
+Sows C (Ok s) = EventsIn C s.count s.events
+Sows C (Err why) = number why ≡ events_break limits 0 C
 
 -- these gates, so many, fill the arrays of kinds, k, n and inputs (so many in all) from the front, and break no limit
 pub record GatesIn (X : List Gate) (g used : ℕ) (ks ls ns is : List ℕ) : Type 0 where
@@ -36,20 +37,14 @@ pub record GatesIn (X : List Gate) (g used : ℕ) (ks ls ns is : List ℕ) : Typ
   pub sizes : ns ≡ pad limits.gates 0 (map size_of X)
   pub inputs : is ≡ pad limits.in_all 0 (flat codes_of X)
 
--- THE ANSWER: the number of the first limit that the tree breaks; the tree in memory where it is 0, else the empty one
-pub record Plants (T : Tree) (r : Planted) : Type 0 where
-  pub number : r.number ≡ broken limits T
-  pub done : r.number ≡ 0 → r.tree ≡ memory (book_of T)
-  pub empty : (r.number ≡ 0 → ⊥) → r.tree ≡ memory start
+-- THE ANSWER: the first limit that the tree breaks, by its number; where it breaks none, the tree in memory
+abbrev pub Plants : Tree → Result Built Refusal → Type 0
+Plants T (Ok t) = (broken limits T ≡ 0) × (t ≡ memory (book_of T))
+Plants T (Err why) = number why ≡ broken limits T
 
 -- the same, where the events are planted already
-abbrev pub PlantsOver : Sown → List Gate → Planted → Type 0
+abbrev pub PlantsOver : Sown → List Gate → Result Built Refusal → Type 0
 PlantsOver e X r = (C : List ℕ) → EventsIn C e.count e.events → Plants (record { chances = C; gates = X }) r
-
--- a refusal with this number
-pub record Refuses (m : ℕ) (r : Planted) : Type 0 where
-  pub number : r.number ≡ m
-  pub tree : r.tree ≡ memory start
 
 -- ---- one gate
 

@@ -5,34 +5,22 @@ ghost use Rattle.std.specs.Prelude.{◌≡◌, [], ◌∷◌, ◌<◌, ◌≤◌
 ghost use Rattle.paper.specs.Limits.{limits};
 ghost use Rattle.paper.specs.Walks.{is_event, events_of};
 ghost use Rattle.paper.specs.Importing.{events_break, too_many};
+ghost use Rattle.paper.specs.Refusals.{number_of};
 ghost use Rattle.records.specs.Flattened.{code_of};
 ghost use Rattle.depthfirst.specs.Inputs.{inputs_of, Arrays};
 ghost use Rattle.planting.specs.Orders.{input_at, chances_among, gates_among, tree_among, Sowable, Plantable};
-ghost use Rattle.planting.specs.Planting.{Sows, Plants, PlantsOver, Refuses, LeastTold, GateTold, LeastKept, Putable, Puts, Sortable, DistinctTold};
+ghost use Rattle.planting.specs.Planting.{Sows, Plants, PlantsOver, LeastTold, GateTold, LeastKept, Putable, Puts, Sortable, DistinctTold};
 
+use paper::refusal::Refusal;
 use paper::{BILLION, EVENTS, GATES, GATES_FROM, IN_ALL, INPUTS};
-use records::{Event, Tree, empty};
+use records::{Event, Tree};
 use twins::distinct;
 
-// The number of the first limit that an event breaks; where it is 0, how many events there are, and the events, with zeros behind them.
+// How many events there are, and the events, with zeros behind them.
 #[derive(Clone, Copy)]
 pub struct Sown {
-    pub number: u8,
     pub count: usize,
     pub events: [Event; EVENTS],
-}
-
-// The number of the first limit that the tree breaks; where it is 0, the tree, else the empty one.
-#[derive(Clone, Copy)]
-pub struct Planted {
-    pub number: u8,
-    pub tree: Tree,
-}
-
-fn wide(x: u32) -> usize
-    ensures { result ≡ x }
-{
-    x as usize
 }
 
 // Whether the name `x` has no inputs.
@@ -41,8 +29,7 @@ pub fn is_event(starts: &[u32], inputs: &[u32], count: u32, x: usize) -> bool
     requires x_lt_count { x < count }
     ensures { result ≡ is_event (inputs_of starts.now inputs.now x) }
 {
-    let next = x + 1;
-    starts[next] <= starts[x]
+    starts[x + 1] <= starts[x]
 }
 
 // How many inputs the name `x` has.
@@ -51,39 +38,25 @@ fn size(starts: &[u32], inputs: &[u32], count: u32, x: usize) -> usize
     requires x_lt_count { x < count }
     ensures { result ≡ length (inputs_of starts.now inputs.now x) }
 {
-    let next = x + 1;
-    let from = wide(starts[x]);
-    let to = wide(starts[next]);
-    if to < from {
-        return 0;
-    }
-    to - from
-}
-
-// A refusal: the tree is empty.
-fn refused(number: u8) -> Planted
-    ensures { Refuses number result }
-{
-    let tree = empty();
-    Planted { number, tree }
+    starts[x + 1].saturating_sub(starts[x]) as usize
 }
 
 // ---- events
 
-// The number of the limit that event number `e` breaks, or 0.
-fn event_breaks(e: usize, chance: u32) -> u8
-    ensures { result ≡ events_break limits e (chance ∷ []) }
+// Err is the limit that event number `e` breaks.
+fn check_event(e: usize, chance: u32) -> Result<(), Refusal>
+    ensures { number_of result ≡ events_break limits e (chance ∷ []) }
 {
     if EVENTS <= e {
-        return 4;
+        return Err(Refusal::Count);
     }
     if BILLION < chance {
-        return 7;
+        return Err(Refusal::Chance);
     }
-    0
+    Ok(())
 }
 
-// The events of the order, in its order.
+// The events of the order, in its order, or the first limit that they break.
 fn plant_events(
     starts: &[u32],
     inputs: &[u32],
@@ -91,37 +64,24 @@ fn plant_events(
     order: &[u32],
     left: usize,
     chances: &[u32],
-) -> Sown
+) -> Result<Sown, Refusal>
     requires { Sowable starts.now inputs.now count order.now left chances.now }
     ensures { Sows (chances_among starts.now inputs.now chances.now (take left order.now)) result }
 {
     let none = Event { chance: 0, site: 0 };
     let mut events = [none; EVENTS];
-    let mut e: usize = 0;
-    let mut i: usize = 0;
-    while i < left {
-        let x = wide(order[i]);
-        i += 1;
-        if is_event(starts, inputs, count, x) {
-            let chance = chances[x];
-            let number = event_breaks(e, chance);
-            if 0 < number {
-                return Sown {
-                    number: number,
-                    count: 0,
-                    events: events,
-                };
-            }
-            let mine = Event { chance, site: 0 };
-            events[e] = mine;
-            e += 1;
+    let mut e = 0;
+    for i in 0..left {
+        let x = order[i] as usize;
+        if !is_event(starts, inputs, count, x) {
+            continue;
         }
+        let chance = chances[x];
+        check_event(e, chance)?;
+        events[e] = Event { chance, site: 0 };
+        e += 1;
     }
-    Sown {
-        number: 0,
-        count: e,
-        events: events,
-    }
+    Ok(Sown { count: e, events })
 }
 
 // ---- gates
@@ -131,48 +91,33 @@ fn too_many(g: usize, used: usize, n: usize) -> bool
     requires { used ≤ limits.in_all }
     ensures { result ≡ too_many limits g used n }
 {
-    if GATES <= g {
-        return true;
-    }
-    if n == 0 {
-        return true;
-    }
-    if INPUTS < n {
-        return true;
-    }
-    IN_ALL < used + n
+    GATES <= g || n == 0 || INPUTS < n || IN_ALL < used + n
 }
 
-// 5 where k of an at-least gate is 0 or above the number `d` of its distinct inputs, else 0.
-fn least_breaks(kind: u32, k: u32, d: usize) -> u8
-    ensures { LeastTold kind k d result }
+// Kinds stay numbers (2 and, 3 or, 4 at least): they are bytes of the format, and C gets them as such.
+
+// Refused where k of an at-least gate is 0 or above the number `d` of its distinct inputs.
+fn check_least(kind: u32, k: u32, d: usize) -> Result<(), Refusal>
+    ensures { LeastTold kind k d (number_of result) }
 {
-    if kind == 2 {
-        return 0;
+    if kind == 2 || kind == 3 {
+        return Ok(());
     }
-    if kind == 3 {
-        return 0;
+    if k == 0 || d < k as usize {
+        return Err(Refusal::Threshold);
     }
-    let least = wide(k);
-    if least == 0 {
-        return 5;
-    }
-    if d < least {
-        return 5;
-    }
-    0
+    Ok(())
 }
 
-// The number of the limit that gate number `g` breaks, or 0: of `n` inputs, `d` of them distinct.
-fn gate_breaks(g: usize, used: usize, kind: u32, k: u32, n: usize, d: usize) -> u8
+// Err is the limit that gate number `g` breaks: of `n` inputs, `d` of them distinct.
+fn check_gate(g: usize, used: usize, kind: u32, k: u32, n: usize, d: usize) -> Result<(), Refusal>
     requires { used ≤ limits.in_all }
-    ensures { GateTold g used kind k n d result }
+    ensures { GateTold g used kind k n d (number_of result) }
 {
     if too_many(g, used, n) {
-        4
-    } else {
-        least_breaks(kind, k, d)
+        return Err(Refusal::Count);
     }
+    check_least(kind, k, d)
 }
 
 // The k that memory holds: 0 but for an at-least gate.
@@ -214,15 +159,13 @@ fn put_inputs(
     requires { Putable starts.now inputs.now count numbers.now x used }
     ensures { Puts starts.now inputs.now numbers.now (inputs_of starts.now inputs.now x) used out.old out.new }
 {
-    let next = x + 1;
-    let end = wide(starts[next]);
-    let mut p = wide(starts[x]);
+    let from = starts[x] as usize;
+    let end = starts[x + 1] as usize;
     let mut u = used;
-    while p < end {
-        let y = wide(inputs[p]);
+    for p in from..end {
+        let y = inputs[p] as usize;
         out[u] = code(starts, inputs, count, numbers, y);
         u += 1;
-        p += 1;
     }
 }
 
@@ -241,7 +184,7 @@ fn distinct_inputs(starts: &[u32], inputs: &[u32], count: u32, numbers: &[u32], 
     distinct(&codes[..n], &mut own)
 }
 
-// The gates of the order, in its order, over the events that are planted.
+// The tree of the events that are planted and the gates of the order, in its order, or the first limit that these break.
 fn plant_gates(
     starts: &[u32],
     inputs: &[u32],
@@ -252,7 +195,7 @@ fn plant_gates(
     kinds: &[u32],
     leasts: &[u32],
     sown: Sown,
-) -> Planted
+) -> Result<Tree, Refusal>
     requires plantable { Plantable starts.now inputs.now count order.now left numbers.now kinds.now leasts.now }
     requires order_len_bound { length (events_of (inputs_of starts.now inputs.now) (take left order.now)) ≤ limits.events }
     ensures { PlantsOver sown (gates_among starts.now inputs.now numbers.now kinds.now leasts.now (take left order.now)) result }
@@ -261,31 +204,27 @@ fn plant_gates(
     let mut ls = [0u8; GATES];
     let mut ns = [0u8; GATES];
     let mut codes = [0u16; IN_ALL];
-    let mut g: usize = 0;
-    let mut used: usize = 0;
-    let mut i: usize = 0;
-    while i < left {
-        let x = wide(order[i]);
+    let mut g = 0;
+    let mut used = 0;
+    for i in 0..left {
+        let x = order[i] as usize;
         let n = size(starts, inputs, count, x);
-        i += 1;
-        if 0 < n {
-            let kind = kinds[x];
-            let k = leasts[x];
-            let d = distinct_inputs(starts, inputs, count, numbers, x);
-            let number = gate_breaks(g, used, kind, k, n, d);
-            if 0 < number {
-                return refused(number);
-            }
-            ks[g] = kind as u8;
-            ls[g] = least(kind, k);
-            ns[g] = n as u8;
-            put_inputs(starts, inputs, count, numbers, x, &mut codes, used);
-            g += 1;
-            used += n;
+        if n == 0 {
+            continue;
         }
+        let kind = kinds[x];
+        let k = leasts[x];
+        let d = distinct_inputs(starts, inputs, count, numbers, x);
+        check_gate(g, used, kind, k, n, d)?;
+        ks[g] = kind as u8;
+        ls[g] = least(kind, k);
+        ns[g] = n as u8;
+        put_inputs(starts, inputs, count, numbers, x, &mut codes, used);
+        g += 1;
+        used += n;
     }
     let events = sown.events;
-    let tree = Tree {
+    Ok(Tree {
         events,
         event_count: sown.count,
         sited: false,
@@ -294,11 +233,11 @@ fn plant_gates(
         sizes: ns,
         gate_count: g,
         inputs: codes,
-    };
-    Planted { number: 0, tree }
+    })
 }
 
-// The tree of the first `left` names of an order: its events, then its gates, each with its chance, or its kind, k and inputs.
+// The tree of the first `left` names of an order: its events, then its gates, each with its chance, or its kind, k and inputs; or the
+// first limit that it breaks.
 pub fn plant(
     starts: &[u32],
     inputs: &[u32],
@@ -309,16 +248,12 @@ pub fn plant(
     numbers: &[u32],
     kinds: &[u32],
     leasts: &[u32],
-) -> Planted
+) -> Result<Tree, Refusal>
     requires plantable { Plantable starts.now inputs.now count order.now left numbers.now kinds.now leasts.now }
     requires count_in_bounds { count ≤ length chances.now }
     ensures { Plants (tree_among starts.now inputs.now chances.now numbers.now kinds.now leasts.now (take left order.now)) result }
 {
-    let sown = plant_events(starts, inputs, count, order, left, chances);
-    let broken = sown.number;
-    if 0 < broken {
-        return refused(broken);
-    }
+    let sown = plant_events(starts, inputs, count, order, left, chances)?;
     plant_gates(
         starts, inputs, count, order, left, numbers, kinds, leasts, sown,
     )

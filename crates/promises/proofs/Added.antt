@@ -14,7 +14,7 @@ use Rattle.algebra.proofs.Prefixes.{added_sum, filled_full, full_filled, filled_
 use Rattle.sizes.proofs.Sums.{sum_same}
 use Rattle.memory.specs.Memory.{Memory}
 use Rattle.memory.specs.Outcome.{Done}
-use Rattle.memory.specs.declared.Analysis.{Analysis}
+use Rattle.memory.specs.Analysis.{Analysis}
 
 -- ---- the gate
 

@@ -11,7 +11,7 @@ use Rattle.memory.specs.Outcome.{Done}
 use Rattle.analyser.specs.Analysed.{Analysed}
 use Rattle.promises.specs.Coincide.{Coincide}
 use Rattle.promises.specs.Memo.{with_memo, OtherMemo, SameButMemo}
-use Rattle.memory.specs.declared.Analysis.{Analysis}
+use Rattle.memory.specs.Analysis.{Analysis}
 use Rattle.promises.proofs.Coincide.{coincide, same_number, same_place}
 
 -- ---- what does not speak of the memo

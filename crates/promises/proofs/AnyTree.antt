@@ -10,7 +10,7 @@ use Rattle.listing.proofs.Join.{join_all, goes_on}
 use Rattle.bracket.specs.Bracketed.{chance_in, Bracketed}
 use Rattle.memory.specs.Memory.{Memory, capacity}
 use Rattle.memory.specs.Outcome.{Done}
-use Rattle.memory.specs.declared.Analysis.{Analysis}
+use Rattle.memory.specs.Analysis.{Analysis}
 use Rattle.analysis.specs.Completing.{Sound}
 use Rattle.promises.specs.Delivers.{Exact, Faithful, Listed, Own, Near, Delivers}
 use Rattle.promises.proofs.Added.{adds_up}

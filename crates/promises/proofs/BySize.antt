@@ -14,7 +14,7 @@ use Rattle.sizes.proofs.Outcome.{counts_together}
 use Rattle.records.specs.Trees.{tree_of}
 use Rattle.memory.specs.Memory.{Memory}
 use Rattle.memory.specs.Outcome.{Done}
-use Rattle.memory.specs.declared.Analysis.{Analysis}
+use Rattle.memory.specs.Analysis.{Analysis}
 use Rattle.analyser.specs.Analysed.{Analysed}
 use Rattle.promises.specs.Reasons.{Accepted}
 use Rattle.promises.specs.BySize.{Uncountable, BySize}

@@ -22,15 +22,16 @@ use Rattle.trees.proofs.Lawful.{lawful}
 use Rattle.listing.specs.Answers.{Answered}
 use Rattle.listing.specs.Joined.{Joined}
 use Rattle.listing.proofs.Join.{join_all}
-use Rattle.sidebyside.specs.declared.Which.{Which}
-use Rattle.sidebyside.specs.declared.Which.TheVariants.{Equal, Yesterday, Today, BadYesterday, BadToday}
+use Rattle.std.specs.Prelude.{Option, None, Some, Result, Ok, Err}
+use Rattle.sidebyside.specs.declared.Side.{Side}
+use Rattle.sidebyside.specs.declared.Side.TheVariants.{Yesterday, Today}
 use Rattle.sidebyside.proofs.Telling.{listing_tells, tells_once}
 use Rattle.changes.specs.Answers.{Sides, Parted}
 use Rattle.changes.proofs.Stretches.{shows_bytes}
-use Rattle.changes.proofs.Once.{align, part_of_lem}
+use Rattle.changes.proofs.Once.{align, fault_bad, part_of_lem}
 use Rattle.memory.specs.Memory.{Memory}
 use Rattle.memory.specs.Outcome.{Done}
-use Rattle.memory.specs.declared.Analysis.{Analysis}
+use Rattle.memory.specs.Analysis.{Analysis}
 use Rattle.analysis.specs.Completing.{Sound}
 use Rattle.analysis.proofs.Reading.{read_sound}
 use Rattle.analyser.specs.Analysed.{Analysed}
@@ -76,12 +77,11 @@ module _ (F G : Fun) (k l : List Set) (f : (S : Set) → In S k ↔ MinimalCut F
       let h = tells_once p (subst (λ (x : List ℕ). Tells x l) (sym e) q) in
       ((λ c. (g S).0 (subst (λ (x : List Set). In S x) h ((f S).1 c))), λ c. (f S).0 (subst (λ (x : List Set). In S x) (sym h) ((g S).1 c)))
 
-  changed : (w : Which) → Parted y z part w → Sides y z w → Changed F G part w
-  changed Equal u s = (u, same s.1)
-  changed Yesterday u s = (u.shows.set, first_change F G k l f g u.shows.set (align u.shows k l p q), u.is ∙ shows_bytes u.shows)
-  changed Today u s = (u.shows.set, first_change G F l k g f u.shows.set (align u.shows l k q p), u.is ∙ shows_bytes u.shows)
-  changed BadYesterday u s = s (record { sets = k; tells = p })
-  changed BadToday u s = s.1 (record { sets = l; tells = q })
+  changed : (w : Result (Option Side) Side) → Parted y z part w → Sides y z w → Changed F G part w
+  changed (Ok None) u s = (u, same s.1)
+  changed (Ok (Some Yesterday)) u s = (u.shows.set, first_change F G k l f g u.shows.set (align u.shows k l p q), u.is ∙ shows_bytes u.shows)
+  changed (Ok (Some Today)) u s = (u.shows.set, first_change G F l k g f u.shows.set (align u.shows l k q p), u.is ∙ shows_bytes u.shows)
+  changed (Err v) u s = fault_bad y z v s (record { sets = k; tells = p }) (record { sets = l; tells = q })
 
 -- OVER THE CONTRACTS ALONE: of `analyse`, `list`, `first_difference` and `side`
 pub first_changed : {b b' : List ℕ} {m₀ m m₀' m' : Memory} {a a' : Analysis} → Analysed b m₀ m a → a.number ≡ 0 → Analysed b' m₀' m' a' → a'.number ≡ 0

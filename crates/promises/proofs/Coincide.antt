@@ -21,15 +21,15 @@ use Rattle.tables.specs.Table.{den}
 use Rattle.tables.proofs.Lent.{lent_lower, root_ordered, root_suppressed}
 use Rattle.tables.proofs.Once.{den_inj, lent_good}
 use Rattle.store.proofs.Denotes.{below_or_not}
-use Rattle.rules.specs.Answers.{verdict}
+use Rattle.rules.specs.Answers.{reason}
 use Rattle.records.specs.Judge.{Book, accept, refuse, outcome}
 use Rattle.records.specs.Trees.{tree_of}
-use Rattle.rules.specs.declared.Answer.{Answer}
+use Rattle.rules.specs.declared.Refusal.{Refusal}
 use Rattle.memory.specs.Memory.{Memory, Lengths, AllZero, capacity}
 use Rattle.memory.specs.Outcome.{Refused, at, Done}
 use Rattle.analyser.specs.Analysed.{Analysed}
 use Rattle.promises.specs.Coincide.{Renumbering, Renumbered, Coincide}
-use Rattle.memory.specs.declared.Analysis.{Analysis}
+use Rattle.memory.specs.Analysis.{Analysis}
 use Rattle.promises.proofs.Refusals.{reading_one, refusal_range}
 use Rattle.promises.proofs.Renumbering.{renumbering, match_functions, match_families}
 
@@ -136,13 +136,13 @@ same_zero {m} {m₁} {m₂} r s = λ i. record {
 -- ---- any two outcomes
 
 -- bytes are refused in one way, or accepted as one tree
-pub same_answer : (bytes : List ℕ) {w v : Answer} → outcome limits bytes ≡ refuse w → outcome limits bytes ≡ refuse v → v ≡ w
+pub same_answer : (bytes : List ℕ) {w v : Refusal} → outcome limits bytes ≡ refuse w → outcome limits bytes ≡ refuse v → v ≡ w
 same_answer bytes {w} {v} p q = let x : refuse v ≡ refuse w = sym q ∙ p in cc
 
 pub same_book : (bytes : List ℕ) {b c : Book} → outcome limits bytes ≡ accept b → outcome limits bytes ≡ accept c → c ≡ b
 same_book bytes {b} {c} p q = let x : accept c ≡ accept b = sym q ∙ p in cc
 
-pub not_both : (bytes : List ℕ) {w : Answer} {b : Book} → outcome limits bytes ≡ refuse w → outcome limits bytes ≡ accept b → ⊥
+pub not_both : (bytes : List ℕ) {w : Refusal} {b : Book} → outcome limits bytes ≡ refuse w → outcome limits bytes ≡ accept b → ⊥
 not_both bytes {w} {b} p q = let x : refuse w ≡ accept b = sym p ∙ q in let z : ◌≡◌ {A = ℕ} 0 1 = cc in omega arith
 
 -- what is said of one tree that was read is said of the other
@@ -169,7 +169,7 @@ refusing l r s e = Coincide.refused (λ z. let w = r.number in omega arith) (sam
 module _ {bytes : List ℕ} {m m₁ m₂ : Memory} {a₁ a₂ : Analysis} where
   pub coincide : Analysed bytes m m₁ a₁ → Analysed bytes m m₂ a₂ → Coincide m₁ m₂ a₁ a₂
   coincide (Analysed.bad_tree w p r k) (Analysed.bad_tree v q s l) =
-      refusing (reading_one (verdict w).number (refusal_range bytes w p)) r (subst (λ x. Refused (verdict x) a₂) (same_answer bytes p q) s) (l ∙ sym k)
+      refusing (reading_one (reason w).number (refusal_range bytes w p)) r (subst (λ x. Refused (reason x) a₂) (same_answer bytes p q) s) (l ∙ sym k)
   coincide (Analysed.bad_tree w p r k) (Analysed.bad_length c q n s l) = absurd (not_both bytes p q)
   coincide (Analysed.bad_tree w p r k) (Analysed.nodes_full c i q n f s l) = absurd (not_both bytes p q)
   coincide (Analysed.bad_tree w p r k) (Analysed.cuts_full c q n f g s l) = absurd (not_both bytes p q)

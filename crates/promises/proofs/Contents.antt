@@ -10,7 +10,7 @@ use Rattle.paper.specs.Answers.{NodesFull, FilledAt, CutsFull}
 use Rattle.records.specs.Trees.{tree_of}
 use Rattle.memory.specs.Memory.{Memory, capacity}
 use Rattle.analyser.specs.Analysed.{Analysed}
-use Rattle.memory.specs.declared.Analysis.{Analysis}
+use Rattle.memory.specs.Analysis.{Analysis}
 use Rattle.memory.proofs.Before.{SameLengths, all_zero_from, done_from, lengths_from}
 
 module _ {m k : Memory} (s : SameLengths m k) where

@@ -6,7 +6,7 @@ use Prim.Native.Nat.{ℕ}
 use Rattle.records.specs.Trees.{tree_of}
 use Rattle.trees.proofs.Lawful.{lawful}
 use Rattle.memory.specs.Memory.{Memory}
-use Rattle.memory.specs.declared.Analysis.{Analysis}
+use Rattle.memory.specs.Analysis.{Analysis}
 use Rattle.analysis.proofs.Reading.{read_sound}
 use Rattle.analyser.specs.Analysed.{Analysed}
 use Rattle.promises.specs.Delivers.{Delivers}

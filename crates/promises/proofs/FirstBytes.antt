@@ -11,7 +11,7 @@ use Rattle.trees.proofs.Prefix.{first_bytes_decide}
 use Rattle.memory.specs.Memory.{Memory}
 use Rattle.analyser.specs.Analysed.{Analysed}
 use Rattle.promises.specs.Coincide.{Coincide}
-use Rattle.memory.specs.declared.Analysis.{Analysis}
+use Rattle.memory.specs.Analysis.{Analysis}
 use Rattle.promises.proofs.Coincide.{coincide}
 
 -- an analysis sees of the bytes only what reading them comes to

@@ -26,7 +26,7 @@ use Rattle.sidebyside.proofs.Telling.{listing_tells, tells_once}
 use Rattle.decision.specs.Answers.{ContainsOne}
 use Rattle.decision.proofs.Once.{twenty, thirteen, decided_by}
 use Rattle.memory.specs.Memory.{Memory}
-use Rattle.memory.specs.declared.Analysis.{Analysis}
+use Rattle.memory.specs.Analysis.{Analysis}
 use Rattle.analyser.specs.Analysed.{Analysed}
 use Rattle.seasons.specs.Seasons.{AnalysedUnder}
 use Rattle.promises.specs.Reasons.{Accepted}

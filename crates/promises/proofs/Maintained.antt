@@ -7,11 +7,14 @@ use mathlib.Core.List.{List}
 use Prim.Native.Nat.{ℕ, ◌<◌}
 use native.Mathlib.Omega.{arith}
 use lib.ListN.{get_or}
+use Rattle.std.specs.Prelude.{Result, Ok, Err}
 use Rattle.paper.specs.Limits.{limits}
 use Rattle.paper.specs.Sets.{Set, none}
 use Rattle.paper.specs.Trees.{Tree, events, TreeBelow}
 use Rattle.paper.specs.Sizes.{largest}
 use Rattle.paper.specs.Answers.{Beyond}
+use Rattle.paper.specs.Refusals.{number}
+use Rattle.paper.specs.declared.refusal.Refusal.{Refusal}
 use Rattle.paper.specs.Planner.{Accepted as Allowed, Decides, holding, plan_of}
 use Rattle.algebra.proofs.Promises.{list_decides, root_shows}
 use Rattle.sets.specs.Words.{set_of}
@@ -20,18 +23,18 @@ use Rattle.remaining.specs.FirstCut.{Room, Finds, Missing}
 use Rattle.remaining.specs.Tallies.{TooMany, Summed, Holding}
 use Rattle.remaining.proofs.Once.{both_sides}
 use Rattle.planner.specs.Saying.{says}
-use Rattle.planner.specs.Checking.{Checks}
+use Rattle.planner.specs.Checking.{Refusing, Checks}
 use Rattle.planner.specs.Judged.{Tells}
 use Rattle.planner.specs.Proposing.{Areas, Proposes}
 use Rattle.planner.specs.declared.Judgement.{Judgement}
-use Rattle.planner.specs.declared.Judgement.TheVariants.{NoDiagram, TooShort, NoSet, Accepts, Misses, Drops}
+use Rattle.planner.specs.declared.Judgement.TheVariants.{Accepts, Misses, Drops}
 use Rattle.planner.proofs.Safety.{never_accepted, empty_accepted}
 use Rattle.planner.proofs.Right.{check_right, accepts_exactly, right_once, plan_computed, plan_keeps}
 use Rattle.records.specs.Trees.{tree_of}
 use Rattle.trees.proofs.Lawful.{lawful}
 use Rattle.memory.specs.Memory.{Memory}
 use Rattle.memory.specs.Outcome.{Done}
-use Rattle.memory.specs.declared.Analysis.{Analysis}
+use Rattle.memory.specs.Analysis.{Analysis}
 use Rattle.analysis.proofs.Reading.{read_sound}
 use Rattle.analyser.specs.Analysed.{Analysed}
 use Rattle.promises.specs.Reasons.{Accepted}
@@ -49,27 +52,27 @@ module _ {t : Tree} {m m' : Memory} {a : Analysis} (d : Done t m m' a) (below : 
   decides = subst (λ l. Decides l (root_of t)) (sym cuts_are) (let r = root_shows (events t) t.gates below in list_decides (events t) _ (root_of t) r.0 r.1)
 
   module _ (ws cut W W' : List ℕ) where
-    checker_takes : (j : Judgement) → Checks (events t) m'.cuts a.cut_nodes a.cut_root ws j cut W W' → (says j).number ≢ 12
-    checker_takes NoDiagram x q = x.because d.cut_table.lent
-    checker_takes TooShort x q = omega arith
-    checker_takes NoSet x q = omega arith
-    checker_takes Accepts x q = omega arith
-    checker_takes Misses x q = omega arith
-    checker_takes (Drops e) x q = omega arith
+    checker_takes : (j : Result Judgement Refusal) → Checks (events t) m'.cuts a.cut_nodes a.cut_root ws j cut W W' → (says j).number ≢ 12
+    checker_takes (Err why) (Refusing.no_diagram e x) q = x.because d.cut_table.lent
+    checker_takes (Err why) (Refusing.too_short e x) q = let w = ap number e in omega (arith, w, q)
+    checker_takes (Err why) (Refusing.beyond e x) q = let w = ap number e in omega (arith, w, q)
+    checker_takes (Ok Accepts) x q = omega arith
+    checker_takes (Ok Misses) x q = omega arith
+    checker_takes (Ok (Drops e)) x q = omega arith
 
-    checker_right : (j : Judgement) → Checks (events t) m'.cuts a.cut_nodes a.cut_root ws j cut W W' → Tells (root_of t) (events t) (set_of ws) (cuts_of t) j (set_of cut)
+    checker_right : (j : Result Judgement Refusal) → Checks (events t) m'.cuts a.cut_nodes a.cut_root ws j cut W W' → Tells (root_of t) (events t) (set_of ws) (cuts_of t) j (set_of cut)
     checker_right j x = subst (λ l. Tells (root_of t) (events t) (set_of ws) l j (set_of cut)) cuts_are (check_right (events t) m'.cuts a.cut_nodes a.cut_root ws cut W W' (root_of t) decides j x)
 
     -- accepted by the root's function; no set is if it always fails, and the empty one is exactly if it can't fail
-    checker_accepts : (j : Judgement) → Checks (events t) m'.cuts a.cut_nodes a.cut_root ws j cut W W' → Room m'.cuts W → (Beyond (events t) (set_of ws) → ⊥)
-        → (j ≡ Accepts) ↔ Allowed (root_of t) (set_of ws)
+    checker_accepts : (j : Result Judgement Refusal) → Checks (events t) m'.cuts a.cut_nodes a.cut_root ws j cut W W' → Room m'.cuts W → (Beyond (events t) (set_of ws) → ⊥)
+        → (j ≡ (Ok Accepts)) ↔ Allowed (root_of t) (set_of ws)
     checker_accepts j x r w = accepts_exactly (events t) m'.cuts a.cut_nodes a.cut_root ws cut W W' (root_of t) decides (record { diagram = d.cut_table.lent; room = r; within = w }) j x
 
-    accepts_none : (j : Judgement) → Checks (events t) m'.cuts a.cut_nodes a.cut_root ws j cut W W' → root_of t none ≡ true → j ≢ Accepts
-    accepts_none j x q e = never_accepted (root_of t) (set_of ws) q (checker_right Accepts (subst (λ v. Checks (events t) m'.cuts a.cut_nodes a.cut_root ws v cut W W') e x))
+    accepts_none : (j : Result Judgement Refusal) → Checks (events t) m'.cuts a.cut_nodes a.cut_root ws j cut W W' → root_of t none ≡ true → j ≢ (Ok Accepts)
+    accepts_none j x q e = never_accepted (root_of t) (set_of ws) q (checker_right (Ok Accepts) (subst (λ v. Checks (events t) m'.cuts a.cut_nodes a.cut_root ws v cut W W') e x))
 
-    accepts_empty : (j : Judgement) → Checks (events t) m'.cuts a.cut_nodes a.cut_root ws j cut W W' → Room m'.cuts W → set_of ws ≡ none
-        → (j ≡ Accepts) ↔ ((S : Set) → root_of t S ≡ false)
+    accepts_empty : (j : Result Judgement Refusal) → Checks (events t) m'.cuts a.cut_nodes a.cut_root ws j cut W W' → Room m'.cuts W → set_of ws ≡ none
+        → (j ≡ (Ok Accepts)) ↔ ((S : Set) → root_of t S ≡ false)
     accepts_empty j x r e =
         let (to, from) = checker_accepts j x r within in
         let (never, back) = empty_accepted (root_of t) in

@@ -26,7 +26,7 @@ use Rattle.importance.proofs.Tells.{none, low_stored, rank_stored}
 use Rattle.importance.proofs.OfTrees.{tree_encloses, tree_low, tree_high}
 use Rattle.memory.specs.Memory.{Memory}
 use Rattle.memory.specs.Outcome.{Done}
-use Rattle.memory.specs.declared.Analysis.{Analysis}
+use Rattle.memory.specs.Analysis.{Analysis}
 use Rattle.analysis.specs.Completing.{Sound}
 use Rattle.analysis.proofs.Reading.{read_sound}
 use Rattle.analyser.specs.Analysed.{Analysed}

@@ -26,7 +26,7 @@ use Rattle.bracket.specs.Bracketed.{chance_in, Bracketed}
 use Rattle.sizes.proofs.Counts.{count_sized, deepest_within, sized_above}
 use Rattle.memory.specs.Memory.{Memory}
 use Rattle.memory.specs.Outcome.{Done}
-use Rattle.memory.specs.declared.Analysis.{Analysis}
+use Rattle.memory.specs.Analysis.{Analysis}
 use Rattle.analysis.proofs.Reading.{read_sound}
 use Rattle.analyser.specs.Analysed.{Analysed}
 use Rattle.promises.specs.Old.{SameAnswers, OldFile}

@@ -35,7 +35,7 @@ use Rattle.bracket.proofs.Outcome.{encloses_built}
 use Rattle.memory.specs.Memory.{Memory}
 use Rattle.memory.specs.Outcome.{Done}
 use Rattle.analysis.specs.Completing.{Sound}
-use Rattle.memory.specs.declared.Analysis.{Analysis}
+use Rattle.memory.specs.Analysis.{Analysis}
 use Rattle.promises.proofs.Promises.{root_function}
 
 -- ---- the chances of a tree that was read

@@ -25,7 +25,7 @@ use Rattle.tables.proofs.Lent.{lent_lower, lent_ordered, lent_suppressed}
 use Rattle.tables.proofs.Once.{den_inj, lent_good}
 use Rattle.memory.specs.Memory.{Memory}
 use Rattle.memory.specs.Outcome.{function_of, family_of, Done}
-use Rattle.memory.specs.declared.Analysis.{Analysis}
+use Rattle.memory.specs.Analysis.{Analysis}
 
 -- ---- the last gate's function is the root's
 

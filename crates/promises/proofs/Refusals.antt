@@ -8,21 +8,20 @@ use Prim.Native.Nat.{ℕ, zero, suc, ◌+◌, ◌≤◌, ◌<◌}
 use native.Mathlib.Omega.{arith}
 use lib.Dec.{ltb, leb, eqb}
 use lib.ListN.{length, drop}
+use Rattle.std.specs.Prelude.{Option, Some, None, Result, Ok, Err}
 use Rattle.paper.specs.Limits.{limits, wide_from, billion}
 use Rattle.paper.specs.Answers.{OfReading}
-use Rattle.rules.specs.Answers.{verdict}
+use Rattle.rules.specs.Answers.{reason}
 use Rattle.rules.specs.Format.{record_of}
 use Rattle.rules.specs.Rules.{mixed, event_step, admit_of, step_of}
 use Rattle.records.specs.Judge.{Book, start, counts, add_event, add_gate, add_input, Outcome, accept, refuse, unused_by, close_of, next_step, run, outcome}
-use Rattle.rules.specs.declared.Answer.{Answer}
-use Rattle.rules.specs.declared.Answer.TheVariants.{Unused}
+use Rattle.rules.specs.declared.Refusal.{Refusal}
+use Rattle.rules.specs.declared.Refusal.TheVariants.{Unused}
 use Rattle.rules.specs.declared.format.Record.{Record}
 use Rattle.rules.specs.declared.format.Record.TheVariants.{Missing, Unknown, Short, Event, SitedEvent, Gate, EventInput, GateInput, WideInput, End}
 use Rattle.rules.specs.declared.judge.State.{State}
 use Rattle.rules.specs.declared.judge.Step.{Step}
-use Rattle.rules.specs.declared.judge.Step.TheVariants.{AddEvent, AddGate, AddInput, Close, Refused}
-use Rattle.records.specs.declared.uses.Found.{Found}
-use Rattle.records.specs.declared.uses.Found.TheVariants.{At, Nothing}
+use Rattle.rules.specs.declared.judge.Step.TheVariants.{AddEvent, AddGate, AddInput, Close}
 use Rattle.rules.proofs.Cases.{if_elim}
 use Rattle.records.proofs.Starving.{threshold_elim}
 use Rattle.records.proofs.Runs.{run_event, run_gate, run_input, run_close, run_refused}
@@ -42,16 +41,16 @@ module _ (k : ℕ) where
   reading_few (inr q) m = q
 
 -- what a step, or a reading, says if it refuses
-abbrev InRange : Step → Type 0
-InRange (AddEvent c site sited next) = Unit {0}
-InRange (AddGate kind k n next) = Unit {0}
-InRange (AddInput i next) = Unit {0}
-InRange Close = Unit {0}
-InRange (Refused a) = OfReading (verdict a).number
+abbrev InRange : Result Step Refusal → Type 0
+InRange (Ok (AddEvent c site sited next)) = Unit {0}
+InRange (Ok (AddGate kind k n next)) = Unit {0}
+InRange (Ok (AddInput i next)) = Unit {0}
+InRange (Ok Close) = Unit {0}
+InRange (Err a) = OfReading (reason a).number
 
 abbrev Ranged : Outcome → Type 0
 Ranged (accept b) = Unit {0}
-Ranged (refuse a) = OfReading (verdict a).number
+Ranged (refuse a) = OfReading (reason a).number
 
 event_range : (s : State) (after c site : ℕ) (sited : Bool) → InRange (event_step limits s after c site sited)
 event_range s after c site sited =
@@ -97,22 +96,22 @@ closed : (b : Book) → Ranged (close_of b)
 unfolding close_of
 closed b = go (unused_by b)
   where
-    go : (f : Found) → Ranged (elim f [ At place ↦ refuse (Unused place) | Nothing ↦ accept b ])
-    go (At p) = inl (omega arith, omega arith)
-    go Nothing = tt
+    go : (f : Option ℕ) → Ranged (elim f [ Some place ↦ refuse (Unused place) | None ↦ accept b ])
+    go (Some p) = inl (omega arith, omega arith)
+    go None = tt
 
 running : (bytes : List ℕ) (turns : ℕ) (b : Book) → Ranged (run limits turns bytes b)
 unfolding run
 running bytes zero b = inl (omega arith, omega arith)
 running bytes (suc turns) b = go (next_step limits bytes b) refl (stepped bytes b) (running bytes turns)
   where
-    go : (x : Step) → next_step limits bytes b ≡ x → InRange x → ((b : Book) → Ranged (run limits turns bytes b)) → Ranged (run limits (suc turns) bytes b)
-    go (AddEvent c site sited next) q h on = subst Ranged (sym (run_event turns bytes b c site sited next q)) (on (add_event b c site sited next))
-    go (AddGate kind k n next) q h on = subst Ranged (sym (run_gate turns bytes b kind k n next q)) (on (add_gate b kind k n next))
-    go (AddInput i next) q h on = subst Ranged (sym (run_input turns bytes b i next q)) (on (add_input b i next))
-    go Close q h on = subst Ranged (sym (run_close turns bytes b q)) (closed b)
-    go (Refused a) q h on = subst Ranged (sym (run_refused turns bytes b a q)) h
+    go : (x : Result Step Refusal) → next_step limits bytes b ≡ x → InRange x → ((b : Book) → Ranged (run limits turns bytes b)) → Ranged (run limits (suc turns) bytes b)
+    go (Ok (AddEvent c site sited next)) q h on = subst Ranged (sym (run_event turns bytes b c site sited next q)) (on (add_event b c site sited next))
+    go (Ok (AddGate kind k n next)) q h on = subst Ranged (sym (run_gate turns bytes b kind k n next q)) (on (add_gate b kind k n next))
+    go (Ok (AddInput i next)) q h on = subst Ranged (sym (run_input turns bytes b i next q)) (on (add_input b i next))
+    go (Ok Close) q h on = subst Ranged (sym (run_close turns bytes b q)) (closed b)
+    go (Err a) q h on = subst Ranged (sym (run_refused turns bytes b a q)) h
 
-pub refusal_range : (bytes : List ℕ) (w : Answer) → outcome limits bytes ≡ refuse w → OfReading (verdict w).number
+pub refusal_range : (bytes : List ℕ) (w : Refusal) → outcome limits bytes ≡ refuse w → OfReading (reason w).number
 unfolding outcome
 refusal_range bytes w e = subst Ranged e (running bytes (length bytes + 1) start)

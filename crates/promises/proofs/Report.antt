@@ -35,7 +35,7 @@ use Rattle.report.specs.Joined.{Joined}
 use Rattle.report.proofs.Join.{goes_on, join_all}
 use Rattle.memory.specs.Memory.{Memory}
 use Rattle.memory.specs.Outcome.{Done}
-use Rattle.memory.specs.declared.Analysis.{Analysis}
+use Rattle.memory.specs.Analysis.{Analysis}
 use Rattle.analysis.specs.Completing.{Sound}
 use Rattle.analysis.proofs.Reading.{read_sound}
 use Rattle.analyser.specs.Analysed.{Analysed}

@@ -18,7 +18,7 @@ use Rattle.trees.proofs.Lawful.{lawful, tree_below}
 use Rattle.memory.specs.Memory.{Memory}
 use Rattle.analyser.specs.Analysed.{Analysed}
 use Rattle.promises.specs.Reasons.{Accepted}
-use Rattle.memory.specs.declared.Analysis.{Analysis}
+use Rattle.memory.specs.Analysis.{Analysis}
 use Rattle.promises.proofs.Promises.{gates_agree}
 use Rattle.promises.proofs.Which.{finished_tree}
 

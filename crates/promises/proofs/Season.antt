@@ -20,14 +20,14 @@ use Rattle.paper.specs.Forcing.{force_f, chance_as, chances_under, force_tree}
 use Rattle.algebra.proofs.Prefixes.{filled_full, filled_once}
 use Rattle.tables.specs.Table.{den}
 use Rattle.tables.proofs.Den.{den_0, den_1}
-use Rattle.rules.specs.Answers.{verdict}
+use Rattle.rules.specs.Answers.{reason}
 use Rattle.records.specs.Judge.{Book, accept, outcome}
 use Rattle.records.specs.Trees.{Lawful, tree_of, TreeLower}
 use Rattle.trees.proofs.Lawful.{lawful, tree_below}
 use Rattle.bracket.specs.Bracketed.{chance_in, Bracketed}
 use Rattle.memory.specs.Memory.{Memory, capacity}
 use Rattle.memory.specs.Outcome.{Refused, at, Done}
-use Rattle.memory.specs.declared.Analysis.{Analysis}
+use Rattle.memory.specs.Analysis.{Analysis}
 use Rattle.analysis.specs.Completing.{Sound}
 use Rattle.analysis.proofs.Reading.{read_sound}
 use Rattle.settings.specs.States.{ChancesForced, Added}
@@ -185,7 +185,7 @@ record Finished (bytes store : List ℕ) (asked : ℕ) (m m' : Memory) (a : Anal
   finished : Done (tree_under asked store tree.book) m m' a
 
 finished_under : {bytes store : List ℕ} {asked : ℕ} {m m' : Memory} {a : Analysis} → AnalysedUnder bytes store asked m m' a → a.number ≡ 0 → Finished bytes store asked m m' a
-finished_under {bytes} (AnalysedUnder.bad_tree w p r k) q = absurd (reading_some (verdict w).number (refusal_range bytes w p) (sym r.number ∙ q))
+finished_under {bytes} (AnalysedUnder.bad_tree w p r k) q = absurd (reading_some (reason w).number (refusal_range bytes w p) (sym r.number ∙ q))
 finished_under (AnalysedUnder.bad_store b p z r k) q = absurd (z (sym r.number ∙ q))
 finished_under {bytes} {store} {asked} {m} {m'} {a} (AnalysedUnder.analysed b p j x) q = record { tree = record { book = b; is = p }; judged = j; finished = go x }
   where
@@ -241,7 +241,7 @@ same_judged store e = ap (λ x. judge_store (events (tree_of x)) store) e
 module _ {bytes store : List ℕ} {asked : ℕ} {m m₁ m₂ : Memory} {a₁ a₂ : Analysis} where
   pub season_coincide : AnalysedUnder bytes store asked m m₁ a₁ → AnalysedUnder bytes store asked m m₂ a₂ → Coincide m₁ m₂ a₁ a₂
   season_coincide (AnalysedUnder.bad_tree w p r k) (AnalysedUnder.bad_tree v q s l) =
-      refusing (reading_one (verdict w).number (refusal_range bytes w p)) r (subst (λ x. Refused (verdict x) a₂) (same_answer bytes p q) s) (l ∙ sym k)
+      refusing (reading_one (reason w).number (refusal_range bytes w p)) r (subst (λ x. Refused (reason x) a₂) (same_answer bytes p q) s) (l ∙ sym k)
   season_coincide (AnalysedUnder.bad_tree w p r k) (AnalysedUnder.bad_store c q z s l) = absurd (not_both bytes p q)
   season_coincide (AnalysedUnder.bad_tree w p r k) (AnalysedUnder.analysed c q j x) = absurd (not_both bytes p q)
   season_coincide (AnalysedUnder.bad_store b p y r k) (AnalysedUnder.bad_tree v q s l) = absurd (not_both bytes q p)

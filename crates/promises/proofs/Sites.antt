@@ -5,17 +5,15 @@ use mathlib.Core.List.{List}
 use Prim.Native.Nat.{ℕ, ◌*◌}
 use native.Mathlib.Omega.{arith}
 use lib.ListN.{length, take}
+use Rattle.std.specs.Prelude.{Option, Some, None, Result, Ok, Err}
 use Rattle.paper.specs.Limits.{limits}
 use Rattle.paper.specs.Answers.{NodesFull, FilledAt, CutsFull}
 use Rattle.paper.specs.Trees.{Tree, events}
-use Rattle.rules.specs.Answers.{verdict}
-use Rattle.rules.specs.declared.Answer.{Answer}
+use Rattle.rules.specs.declared.Refusal.{Refusal}
 use Rattle.rules.specs.Format.{length_of}
-use Rattle.rules.specs.declared.Answer.TheVariants.{Done as Written, Sited}
+use Rattle.rules.specs.declared.Refusal.TheVariants.{Sited}
 use Rattle.records.specs.Judge.{Book, Outcome, accept, refuse, outcome}
 use Rattle.records.specs.Trees.{tree_of}
-use Rattle.records.specs.declared.uses.Found.{Found}
-use Rattle.records.specs.declared.uses.Found.TheVariants.{At, Nothing}
 use Rattle.writing.specs.Sites.{lowest_sited}
 use Rattle.writing.specs.Writes.{Wrote, wrote}
 use Rattle.trees.specs.Exactly.{AreBytes}
@@ -24,10 +22,9 @@ use Rattle.moves.proofs.Forms.{found_none}
 use Rattle.moves.proofs.Promises.{to_keeps, from_keeps}
 use Rattle.memory.specs.Memory.{Memory, Lengths, capacity}
 use Rattle.memory.specs.Outcome.{Done}
-use Rattle.memory.specs.declared.Analysis.{Analysis}
+use Rattle.memory.specs.Analysis.{Analysis}
 use Rattle.analyser.specs.Analysed.{Analysed}
 use Rattle.promises.specs.Sites.{SameButSites, AnswerAlike, Unsited, Keeps}
-use Rattle.promises.proofs.Refusals.{reading_some, refusal_range}
 use Rattle.promises.proofs.Coincide.{same_book, not_both, coincide}
 use Rattle.promises.proofs.OnTables.{list_is_whole}
 use Rattle.promises.proofs.Unseen.{moved, carried, counted, both_done}
@@ -81,10 +78,6 @@ unsited {bytes} {bytes'} s = record {
 
 -- ---- both moves
 
--- a refusal is not done
-refuses : (bytes : List ℕ) (w : Answer) → outcome limits bytes ≡ refuse w → w ≡ Written → ⊥
-refuses bytes w p q = reading_some (verdict w).number (refusal_range bytes w p) (ap (λ x. (verdict x).number) q)
-
 -- what is read as the same tree is kept
 kept : {bytes new : List ℕ} {b c : Book} → outcome limits bytes ≡ accept b → outcome limits new ≡ accept c → tree_of c ≡ tree_of b → Keeps bytes new
 kept {bytes} {new} {b} {c} e f t =
@@ -92,30 +85,30 @@ kept {bytes} {new} {b} {c} e f t =
     record { tree = s; analysis = unsited s }
 
 module _ (bytes : List ℕ) (good : AreBytes bytes) (room : List ℕ) {w : Wrote} where
-  unmoved : {a : Answer} → outcome limits bytes ≡ refuse a → w ≡ wrote a 0 room → w.answer ≡ Written → ⊥
-  unmoved {a} e x d = refuses bytes a e (sym (ap (λ (v : Wrote). v.answer) x) ∙ d)
+  -- a refusal is not done
+  unmoved : {n : ℕ} (a : Refusal) → w ≡ wrote (Err a) room → w.answer ≡ Ok n → ⊥
+  unmoved {n} a x d =
+      let y : ◌≡◌ {A = Result ℕ Refusal} (Err a) (Ok n) = sym (ap (λ (v : Wrote). v.answer) x) ∙ d in
+      let z : ◌≡◌ {A = ℕ} 0 1 = cc in omega arith
 
   -- TO THE FORM WITH SITES, where it is done: what stands at the front of the room
-  pub to_sites_keeps : w ≡ to_sites limits bytes room → w.answer ≡ Written → Keeps bytes (take w.bytes w.room)
+  pub to_sites_keeps : w ≡ to_sites limits bytes room → {n : ℕ} → w.answer ≡ Ok n → Keeps bytes (take n w.room)
   unfolding to_sites
-  to_sites_keeps q d = go (outcome limits bytes) refl
+  to_sites_keeps q {n} d = go (outcome limits bytes) refl
     where
-      go : (o : Outcome) → outcome limits bytes ≡ o → Keeps bytes (take w.bytes w.room)
+      go : (o : Outcome) → outcome limits bytes ≡ o → Keeps bytes (take n w.room)
       go (accept b) e = let k = to_keeps bytes good b e room q d in kept e k.accepted k.tree
-      go (refuse a) e = absurd (unmoved e (q ∙ rw e) d)
+      go (refuse a) e = absurd (unmoved a (q ∙ rw e) d)
 
   -- AND BACK
-  pub from_sites_keeps : w ≡ from_sites limits bytes room → w.answer ≡ Written → Keeps bytes (take w.bytes w.room)
+  pub from_sites_keeps : w ≡ from_sites limits bytes room → {n : ℕ} → w.answer ≡ Ok n → Keeps bytes (take n w.room)
   unfolding from_sites
-  from_sites_keeps q d = go (outcome limits bytes) refl
+  from_sites_keeps q {n} d = go (outcome limits bytes) refl
     where
-      go : (o : Outcome) → outcome limits bytes ≡ o → Keeps bytes (take w.bytes w.room)
+      go : (o : Outcome) → outcome limits bytes ≡ o → Keeps bytes (take n w.room)
       go (accept b) e = found (lowest_sited (length b.events) 0 b.events) refl
         where
-          found : (x : Found) → lowest_sited (length b.events) 0 b.events ≡ x → Keeps bytes (take w.bytes w.room)
-          found Nothing n = let k = from_keeps bytes good b e (found_none b.events (length b.events) 0 n) room q d in kept e k.accepted k.tree
-          found (At i) n =
-              let x : w ≡ wrote (Sited (length_of 0x11 * i)) 0 room = q ∙ rw (e, n) in
-              let y : Sited (length_of 0x11 * i) ≡ Written = sym (ap (λ (v : Wrote). v.answer) x) ∙ d in
-              let z : ◌≡◌ {A = ℕ} 0 1 = cc in absurd (omega arith)
-      go (refuse a) e = absurd (unmoved e (q ∙ rw e) d)
+          found : (x : Option ℕ) → lowest_sited (length b.events) 0 b.events ≡ x → Keeps bytes (take n w.room)
+          found None k = let h = from_keeps bytes good b e (found_none b.events (length b.events) 0 k) room q d in kept e h.accepted h.tree
+          found (Some i) k = absurd (unmoved (Sited (length_of 0x11 * i)) (q ∙ rw (e, k)) d)
+      go (refuse a) e = absurd (unmoved a (q ∙ rw e) d)

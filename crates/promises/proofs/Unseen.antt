@@ -23,7 +23,7 @@ use Rattle.memory.specs.Memory.{Memory}
 use Rattle.memory.specs.Outcome.{Done}
 use Rattle.analyser.specs.Analysed.{Analysed}
 use Rattle.promises.specs.Reasons.{Accepted}
-use Rattle.memory.specs.declared.Analysis.{Analysis}
+use Rattle.memory.specs.Analysis.{Analysis}
 use Rattle.promises.proofs.Coincide.{same_book, coincide, same_number, done_renumbered}
 use Rattle.promises.proofs.Which.{finished_tree}
 

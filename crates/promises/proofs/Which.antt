@@ -9,14 +9,14 @@ use lib.ListN.{length, replicate}
 use Rattle.paper.specs.Limits.{limits}
 use Rattle.paper.specs.Answers.{OfReading, NodesFull, FilledAt, CutsFull}
 use Rattle.algebra.proofs.Prefixes.{filled_full, full_filled}
-use Rattle.rules.specs.Answers.{verdict}
+use Rattle.rules.specs.Answers.{reason}
 use Rattle.records.specs.Judge.{refuse, outcome}
 use Rattle.records.specs.Trees.{tree_of}
-use Rattle.rules.specs.declared.Answer.{Answer}
+use Rattle.rules.specs.declared.Refusal.{Refusal}
 use Rattle.memory.specs.Memory.{Memory, Lengths, AllZero, capacity}
 use Rattle.memory.specs.Outcome.{Refused, at, Done}
 use Rattle.analyser.specs.Analysed.{Analysed}
-use Rattle.memory.specs.declared.Analysis.{Analysis}
+use Rattle.memory.specs.Analysis.{Analysis}
 use Rattle.promises.specs.Reasons.{BadTree, Accepted, Long, TooManyNodes, FullAt, TooManyCuts}
 use Rattle.promises.proofs.Refusals.{reading_some, reading_few, refusal_range}
 use Rattle.promises.proofs.Coincide.{same_answer, same_book, not_both, coincide, same_number, same_place}
@@ -61,21 +61,21 @@ module _ {bytes : List ℕ} {m m' : Memory} {a : Analysis} where
   from_tree (Analysed.done b p n f g r) q = absurd (reading_some a.number q r.number)
 
   from_nine : Analysed bytes m m' a → a.number ≡ 9 → (t : Accepted bytes) × (Long t m → ⊥)
-  from_nine (Analysed.bad_tree w p r k) q = absurd (let e = r.number in omega (arith, e, q, reading_few (verdict w).number (refusal_range bytes w p) (omega (arith, e, q))))
+  from_nine (Analysed.bad_tree w p r k) q = absurd (let e = r.number in omega (arith, e, q, reading_few (reason w).number (refusal_range bytes w p) (omega (arith, e, q))))
   from_nine (Analysed.bad_length b p n r k) q = (record { book = b; is = p }, n)
   from_nine (Analysed.nodes_full b i p n f r k) q = absurd (let e = r.number in omega arith)
   from_nine (Analysed.cuts_full b p n f g r k) q = absurd (let e = r.number in omega arith)
   from_nine (Analysed.done b p n f g r) q = absurd (let e = r.number in omega arith)
 
   from_ten : Analysed bytes m m' a → a.number ≡ 10 → (t : Accepted bytes) × Long t m × FullAt t m a.place
-  from_ten (Analysed.bad_tree w p r k) q = absurd (let e = r.number in omega (arith, e, q, reading_few (verdict w).number (refusal_range bytes w p) (omega (arith, e, q))))
+  from_ten (Analysed.bad_tree w p r k) q = absurd (let e = r.number in omega (arith, e, q, reading_few (reason w).number (refusal_range bytes w p) (omega (arith, e, q))))
   from_ten (Analysed.bad_length b p n r k) q = absurd (let e = r.number in omega arith)
   from_ten (Analysed.nodes_full b i p n f r k) q = (record { book = b; is = p }, n, subst (λ g. FilledAt (tree_of b) (capacity m.nodes) g) (sym r.place) f)
   from_ten (Analysed.cuts_full b p n f g r k) q = absurd (let e = r.number in omega arith)
   from_ten (Analysed.done b p n f g r) q = absurd (let e = r.number in omega arith)
 
   from_eleven : Analysed bytes m m' a → a.number ≡ 11 → (t : Accepted bytes) × Long t m × (TooManyNodes t m → ⊥) × TooManyCuts t m
-  from_eleven (Analysed.bad_tree w p r k) q = absurd (let e = r.number in omega (arith, e, q, reading_few (verdict w).number (refusal_range bytes w p) (omega (arith, e, q))))
+  from_eleven (Analysed.bad_tree w p r k) q = absurd (let e = r.number in omega (arith, e, q, reading_few (reason w).number (refusal_range bytes w p) (omega (arith, e, q))))
   from_eleven (Analysed.bad_length b p n r k) q = absurd (let e = r.number in omega arith)
   from_eleven (Analysed.nodes_full b i p n f r k) q = absurd (let e = r.number in omega arith)
   from_eleven (Analysed.cuts_full b p n f g r k) q = (record { book = b; is = p }, n, f, g)
@@ -83,7 +83,7 @@ module _ {bytes : List ℕ} {m m' : Memory} {a : Analysis} where
 
   -- and a done analysis leaves its tables
   pub from_done : Analysed bytes m m' a → a.number ≡ 0 → (t : Accepted bytes) × Long t m × (TooManyNodes t m → ⊥) × (TooManyCuts t m → ⊥) × Done (tree_of t.book) m m' a
-  from_done (Analysed.bad_tree w p r k) q = absurd (reading_some (verdict w).number (refusal_range bytes w p) (sym r.number ∙ q))
+  from_done (Analysed.bad_tree w p r k) q = absurd (reading_some (reason w).number (refusal_range bytes w p) (sym r.number ∙ q))
   from_done (Analysed.bad_length b p n r k) q = absurd (let e = r.number in omega arith)
   from_done (Analysed.nodes_full b i p n f r k) q = absurd (let e = r.number in omega arith)
   from_done (Analysed.cuts_full b p n f g r k) q = absurd (let e = r.number in omega arith)
@@ -115,10 +115,10 @@ module _ {bytes : List ℕ} {m m' : Memory} {a : Analysis} (x : Analysed bytes m
   pub of_reading : OfReading a.number ↔ BadTree bytes a.number a.place
   of_reading = (from_tree x, λ b. subst OfReading (sym b.number_is) (refusal_range bytes b.answer b.refused))
 
-  pub refused_so : (w : Answer) → outcome limits bytes ≡ refuse w → (a.number ≡ (verdict w).number) × (a.place ≡ (verdict w).place)
-  refused_so w p = let b = from_tree x (subst OfReading (sym (is_number (verdict w).number (verdict w).place (Analysed.bad_tree w p (answers (verdict w).number (verdict w).place) refl))) (refusal_range bytes w p)) in
+  pub refused_so : (w : Refusal) → outcome limits bytes ≡ refuse w → (a.number ≡ (reason w).number) × (a.place ≡ (reason w).place)
+  refused_so w p = let b = from_tree x (subst OfReading (sym (is_number (reason w).number (reason w).place (Analysed.bad_tree w p (answers (reason w).number (reason w).place) refl))) (refusal_range bytes w p)) in
       let e : b.answer ≡ w = same_answer bytes p b.refused in
-      (b.number_is ∙ ap (λ y. (verdict y).number) e, b.place_is ∙ ap (λ y. (verdict y).place) e)
+      (b.number_is ∙ ap (λ y. (reason y).number) e, b.place_is ∙ ap (λ y. (reason y).place) e)
 
   -- 9 exactly when an accepted tree meets a length that breaks the rules
   pub nine : (a.number ≡ 9) ↔ ((t : Accepted bytes) × (Long t m → ⊥))

@@ -6,7 +6,7 @@ use Rattle.paper.specs.Cuts.{cut_list}
 use Rattle.paper.specs.Sizes.{cuts_of_size, largest, sizes, together}
 use Rattle.sizes.specs.Counted.{Enough, Counted}
 use Rattle.memory.specs.Memory.{Memory}
-use Rattle.memory.specs.declared.Analysis.{Analysis}
+use Rattle.memory.specs.Analysis.{Analysis}
 
 -- some size has more minimal cuts than can be answered
 pub record Uncountable (t : Tree) : Type 0 where

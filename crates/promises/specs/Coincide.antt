@@ -3,7 +3,7 @@
 use Rattle.std.specs.Prelude.{◌≡◌, ◌≢◌, List, ℕ, ◌+◌, ◌*◌, ◌≤◌, ◌<◌, length, get_or}
 use Rattle.tables.specs.Table.{event_of, failed_of, sound_of, den}
 use Rattle.memory.specs.Memory.{Memory}
-use Rattle.memory.specs.declared.Analysis.{Analysis}
+use Rattle.memory.specs.Analysis.{Analysis}
 
 -- The c nodes of T under other numbers are the c' nodes of T': leaves stay, each way undoes the other, and events and branches go along.
 -- Behind the nodes the tables are equal.

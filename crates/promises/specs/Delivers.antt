@@ -20,7 +20,7 @@ use Rattle.listing.specs.Joined.{Joined}
 use Rattle.bracket.specs.Bracketed.{chance_in, Bracketed}
 use Rattle.memory.specs.Memory.{Memory, capacity}
 use Rattle.memory.specs.Outcome.{function_of, family_of, Holds}
-use Rattle.memory.specs.declared.Analysis.{Analysis}
+use Rattle.memory.specs.Analysis.{Analysis}
 
 -- the function of gate i
 abbrev pub gate_of : Tree → ℕ → Fun

@@ -10,7 +10,7 @@ use Rattle.sets.specs.Words.{set_of}
 use Rattle.listing.specs.Joined.{Joined}
 use Rattle.decision.specs.Answers.{ContainsOne, Decides}
 use Rattle.memory.specs.Memory.{Memory}
-use Rattle.memory.specs.declared.Analysis.{Analysis}
+use Rattle.memory.specs.Analysis.{Analysis}
 
 -- The bytes tell these sets, and no others. A set of failures fails the root exactly if it contains one of them. Leaving any of them off the list breaks
 -- this: that set itself fails the root, and contains none of those that are left.

@@ -1,12 +1,13 @@
 -- THE PLANNER ON A DONE ANALYSIS: what `check` and `plan` answer on the cut table of a done analysis of the tree t is right of the tree's root.
 -- Assumes nothing.
-use Rattle.std.specs.Prelude.{◌≡◌, ◌≢◌, ◌↔◌, Bool, true, false, List, ℕ, ◌<◌, get_or}
+use Rattle.std.specs.Prelude.{◌≡◌, ◌≢◌, ◌↔◌, Bool, true, false, List, ℕ, ◌<◌, get_or, Result, Ok}
 use Rattle.paper.specs.Sets.{Set, none}
 use Rattle.paper.specs.Functions.{Fun}
 use Rattle.paper.specs.Trees.{Tree, events, root_fun}
 use Rattle.paper.specs.Cuts.{cut_list}
 use Rattle.paper.specs.Sizes.{largest}
 use Rattle.paper.specs.Answers.{Beyond}
+use Rattle.paper.specs.declared.refusal.Refusal.{Refusal}
 use Rattle.paper.specs.Planner.{Safe, Accepted, holding, plan_of}
 use Rattle.sets.specs.Words.{set_of}
 use Rattle.remaining.specs.FirstCut.{Room, Finds, Missing}
@@ -18,7 +19,7 @@ use Rattle.planner.specs.Proposing.{Areas, Proposes}
 use Rattle.planner.specs.declared.Judgement.{Judgement}
 use Rattle.planner.specs.declared.Judgement.TheVariants.{Accepts}
 use Rattle.memory.specs.Memory.{Memory}
-use Rattle.memory.specs.declared.Analysis.{Analysis}
+use Rattle.memory.specs.Analysis.{Analysis}
 
 -- the root's function, and its minimal cuts in the order of the listing
 abbrev pub root_of : Tree → Fun
@@ -39,15 +40,15 @@ pub record Uncounted (t : Tree) : Type 0 where
 -- failing exactly if the root does not always fail; it answers 19 exactly if some count is above 2^64 - 1. Of the two calls under it the one finds the
 -- first minimal cut that misses the set, and the other counts the minimal cuts that miss it.
 pub record Maintained (t : Tree) (m : Memory) (a : Analysis) : Type 0 where
-  pub takes : (ws cut W W' : List ℕ) (j : Judgement) → Checks (events t) m.cuts a.cut_nodes a.cut_root ws j cut W W' → (says j).number ≢ 12
-  pub right : (ws cut W W' : List ℕ) (j : Judgement) → Checks (events t) m.cuts a.cut_nodes a.cut_root ws j cut W W'
+  pub takes : (ws cut W W' : List ℕ) (j : Result Judgement Refusal) → Checks (events t) m.cuts a.cut_nodes a.cut_root ws j cut W W' → (says j).number ≢ 12
+  pub right : (ws cut W W' : List ℕ) (j : Result Judgement Refusal) → Checks (events t) m.cuts a.cut_nodes a.cut_root ws j cut W W'
       → Tells (root_of t) (events t) (set_of ws) (cuts_of t) j (set_of cut)
-  pub accepts : (ws cut W W' : List ℕ) (j : Judgement) → Checks (events t) m.cuts a.cut_nodes a.cut_root ws j cut W W'
-      → Room m.cuts W → (Beyond (events t) (set_of ws) → ⊥) → (j ≡ Accepts) ↔ Accepted (root_of t) (set_of ws)
-  pub one_right : (K S T : Set) (j k : Judgement) → (says j).number ≡ 0 → (says k).number ≡ 0 → Tells (root_of t) (events t) K (cuts_of t) j S → Tells (root_of t) (events t) K (cuts_of t) k T → j ≡ k
-  pub always_fails : (ws cut W W' : List ℕ) (j : Judgement) → Checks (events t) m.cuts a.cut_nodes a.cut_root ws j cut W W' → root_of t none ≡ true → j ≢ Accepts
-  pub empty_set : (ws cut W W' : List ℕ) (j : Judgement) → Checks (events t) m.cuts a.cut_nodes a.cut_root ws j cut W W'
-      → Room m.cuts W → set_of ws ≡ none → (j ≡ Accepts) ↔ ((S : Set) → root_of t S ≡ false)
+  pub accepts : (ws cut W W' : List ℕ) (j : Result Judgement Refusal) → Checks (events t) m.cuts a.cut_nodes a.cut_root ws j cut W W'
+      → Room m.cuts W → (Beyond (events t) (set_of ws) → ⊥) → (j ≡ (Ok Accepts)) ↔ Accepted (root_of t) (set_of ws)
+  pub one_right : (K S T : Set) (j k : Result Judgement Refusal) → (says j).number ≡ 0 → (says k).number ≡ 0 → Tells (root_of t) (events t) K (cuts_of t) j S → Tells (root_of t) (events t) K (cuts_of t) k T → j ≡ k
+  pub always_fails : (ws cut W W' : List ℕ) (j : Result Judgement Refusal) → Checks (events t) m.cuts a.cut_nodes a.cut_root ws j cut W W' → root_of t none ≡ true → j ≢ (Ok Accepts)
+  pub empty_set : (ws cut W W' : List ℕ) (j : Result Judgement Refusal) → Checks (events t) m.cuts a.cut_nodes a.cut_root ws j cut W W'
+      → Room m.cuts W → set_of ws ≡ none → (j ≡ (Ok Accepts)) ↔ ((S : Set) → root_of t S ≡ false)
   pub plan_takes : {number place : ℕ} {set B W B' W' : List ℕ} → Proposes (events t) m.cuts a.cut_nodes a.cut_root number place set B W B' W' → number ≢ 12
   pub plans : {number place : ℕ} {set B W B' W' : List ℕ} → Proposes (events t) m.cuts a.cut_nodes a.cut_root number place set B W B' W' → number ≡ 0
       → set_of set ≡ plan_of (events t) (cuts_of t)

@@ -9,7 +9,7 @@ use Rattle.paper.specs.Importance.{importance_low, importance_high, Encloses, Ra
 use Rattle.bracket.specs.Bracketed.{chance_in}
 use Rattle.importance.specs.Weighed.{Enough, Weighed, firsts}
 use Rattle.memory.specs.Memory.{Memory}
-use Rattle.memory.specs.declared.Analysis.{Analysis}
+use Rattle.memory.specs.Analysis.{Analysis}
 use Rattle.promises.specs.Delivers.{Own}
 
 -- the exact chance of F, times D to the power of the number of events

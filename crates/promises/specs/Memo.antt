@@ -2,7 +2,7 @@
 -- Assumes nothing.
 use Rattle.std.specs.Prelude.{◌≡◌, List, ℕ, ◌%◌, length}
 use Rattle.memory.specs.Memory.{Memory, memory}
-use Rattle.memory.specs.declared.Analysis.{Analysis}
+use Rattle.memory.specs.Analysis.{Analysis}
 use Rattle.promises.specs.Coincide.{Coincide}
 
 -- m with another memo

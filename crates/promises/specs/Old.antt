@@ -1,6 +1,6 @@
 -- OLD FILES: what every file that an old reader accepts has kept.
 -- Assumes nothing.
-use Rattle.std.specs.Prelude.{◌≡◌, true, List, ◌++◌, ℕ, ◌≤◌, ◌<◌, length, get_or, drop}
+use Rattle.std.specs.Prelude.{◌≡◌, true, Ok, List, ◌++◌, ℕ, ◌≤◌, ◌<◌, length, get_or, drop}
 use Rattle.paper.specs.Limits.{limits, old_limits, billion}
 use Rattle.paper.specs.Sets.{Set}
 use Rattle.paper.specs.Trees.{Tree, events, root_fun}
@@ -14,13 +14,12 @@ use Rattle.paper.specs.Answers.{cut_nodes_of}
 use Rattle.records.specs.Judge.{Book, accept, outcome}
 use Rattle.records.specs.Memory.{memory}
 use Rattle.records.specs.Trees.{tree_of}
-use Rattle.rules.specs.declared.Answer.TheVariants.{Done}
 use Rattle.writing.specs.Writes.{write_of, wrote}
 use Rattle.listing.specs.Joined.{Joined}
 use Rattle.bracket.specs.Bracketed.{chance_in, Bracketed}
 use Rattle.sizes.specs.Counted.{Counted}
 use Rattle.memory.specs.Memory.{Memory}
-use Rattle.memory.specs.declared.Analysis.{Analysis}
+use Rattle.memory.specs.Analysis.{Analysis}
 use Rattle.analyser.specs.Analysed.{Analysed}
 
 -- WHAT THE CALLS ANSWER on a done analysis of the tree t, each by definitions of t that no limit enters
@@ -47,5 +46,5 @@ pub record SameAnswers (t : Tree) (m : Memory) (a : Analysis) : Type 0 where
 -- THESE BYTES, which an old reader reads as the tree of b, are read as that tree and written back as they are, and the calls answer by it as ever
 pub record OldFile (bytes : List ℕ) (b : Book) : Type 0 where
   pub read : outcome limits bytes ≡ accept b
-  pub written : (room : List ℕ) → length bytes ≤ length room → write_of limits (memory b) room ≡ wrote Done (length bytes) (bytes ++ drop (length bytes) room)
+  pub written : (room : List ℕ) → length bytes ≤ length room → write_of limits (memory b) room ≡ wrote (Ok (length bytes)) (bytes ++ drop (length bytes) room)
   pub answers : {m m' : Memory} {a : Analysis} → Analysed bytes m m' a → a.number ≡ 0 → SameAnswers (tree_of b) m' a

@@ -3,18 +3,18 @@
 use Rattle.std.specs.Prelude.{◌≡◌, List, ℕ, length}
 use Rattle.paper.specs.Limits.{limits}
 use Rattle.paper.specs.Answers.{NodesFull, FilledAt, CutsFull}
-use Rattle.rules.specs.Answers.{verdict}
+use Rattle.rules.specs.Answers.{reason}
 use Rattle.records.specs.Judge.{Book, accept, refuse, outcome}
 use Rattle.records.specs.Trees.{tree_of}
-use Rattle.rules.specs.declared.Answer.{Answer}
+use Rattle.rules.specs.declared.Refusal.{Refusal}
 use Rattle.memory.specs.Memory.{Memory, Lengths, capacity}
 
 -- the bytes are refused with this number and place
 pub record BadTree (bytes : List ℕ) (number place : ℕ) : Type 0 where
-  pub answer : Answer
+  pub answer : Refusal
   pub refused : outcome limits bytes ≡ refuse answer
-  pub number_is : number ≡ (verdict answer).number
-  pub place_is : place ≡ (verdict answer).place
+  pub number_is : number ≡ (reason answer).number
+  pub place_is : place ≡ (reason answer).place
 
 -- the bytes are accepted
 pub record Accepted (bytes : List ℕ) : Type 0 where

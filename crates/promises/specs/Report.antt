@@ -14,7 +14,7 @@ use Rattle.bracket.specs.Bracketed.{chance_in}
 use Rattle.report.specs.Answers.{Answered}
 use Rattle.report.specs.Joined.{Joined}
 use Rattle.memory.specs.Memory.{Memory, capacity}
-use Rattle.memory.specs.declared.Analysis.{Analysis}
+use Rattle.memory.specs.Analysis.{Analysis}
 use Rattle.promises.specs.Delivers.{Own}
 
 -- reportable under edition r, by the tree's own chances

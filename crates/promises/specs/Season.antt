@@ -17,7 +17,7 @@ use Rattle.tables.specs.Table.{den}
 use Rattle.bracket.specs.Bracketed.{chance_in, Bracketed}
 use Rattle.settings.specs.States.{ChancesForced}
 use Rattle.memory.specs.Memory.{Memory}
-use Rattle.memory.specs.declared.Analysis.{Analysis}
+use Rattle.memory.specs.Analysis.{Analysis}
 use Rattle.promises.specs.Delivers.{cuts_in, Own, Delivers}
 
 pub record Season (s : Settings) (t : Tree) (m : Memory) (a : Analysis) : Type 0 where

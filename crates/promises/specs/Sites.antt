@@ -8,7 +8,7 @@ use Rattle.listing.specs.Joined.{Joined}
 use Rattle.bracket.specs.Bracketed.{Bracketed}
 use Rattle.sizes.specs.Counted.{Counted}
 use Rattle.memory.specs.Memory.{Memory}
-use Rattle.memory.specs.declared.Analysis.{Analysis}
+use Rattle.memory.specs.Analysis.{Analysis}
 use Rattle.analyser.specs.Analysed.{Analysed}
 use Rattle.promises.specs.Reasons.{Accepted}
 use Rattle.promises.specs.Coincide.{Coincide}

@@ -21,8 +21,8 @@ fn tell(rt: &impl Print, words: &[u8], t: Tree) -> io::Result<()> {
     let w = writing::write(t, &mut room);
     rt.write_all(words)?;
     print!(rt; ": ")?;
-    say(rt, w.answer)?;
-    print!(rt; ", {} bytes, then ", w.bytes)?;
+    say(rt, &w)?;
+    print!(rt; ", {} bytes, then ", w.unwrap_or(0))?;
     byte(rt, room[0])?;
     print!(rt; " .. ")?;
     byte(rt, room[36])?;
@@ -36,7 +36,7 @@ fn in_room(rt: &impl Print, t: Tree, n: usize) -> io::Result<()>
     let mut room = [255u8; 4096];
     let w = writing::write(t, &mut room[..n]);
     print!(rt; "room of {n}: ")?;
-    say(rt, w.answer)?;
+    say(rt, &w)?;
     print!(rt; ", ")?;
     byte(rt, room[0])?;
     print!(rt; " .. ")?;
@@ -151,8 +151,10 @@ fn sites(rt: &impl Print, t: Tree) -> io::Result<()> {
 }
 
 pub fn all(rt: &impl Print) -> io::Result<()> {
-    let r = records::read(&CASE);
-    let t = r.tree;
+    let t = match records::read(&CASE) {
+        Ok(t) => t,
+        Err(_) => records::empty(),
+    };
     tell(rt, b"as it was read", t)?;
     counts(rt, t)?;
     gates(rt, t)?;

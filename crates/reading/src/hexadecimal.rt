@@ -1,5 +1,5 @@
 // The bytes that a line of text stands for: two digits to a byte, and (..)xN for N times what stands between.
-ghost use Rattle.std.specs.Prelude.{◌≤◌, ◌<◌, length};
+ghost use Rattle.std.specs.Prelude.{◌≤◌, ◌<◌, length, IfSome};
 ghost use Rattle.reading.specs.Cursors.{Inside, Moved};
 
 // Where the line stands, how many bytes it has given, and where the last group starts in them.
@@ -17,21 +17,15 @@ pub struct Repeat {
     pub next: usize,
 }
 
-// What a digit stands for; 16 for what is none.
-fn digit(c: u8) -> u8
-    ensures { result ≤ 16 }
+// What a digit stands for.
+fn digit(c: u8) -> Option<u8>
+    ensures { IfSome result (λ d. d < 16) }
 {
-    if b'0' <= c {
-        if c <= b'9' {
-            return c - b'0';
-        }
+    match c {
+        b'0'..=b'9' => Some(c - b'0'),
+        b'A'..=b'F' => Some(c - b'A' + 10),
+        _ => None,
     }
-    if b'A' <= c {
-        if c <= b'F' {
-            return c - b'A' + 10;
-        }
-    }
-    16
 }
 
 // The number that stands at `from`, of at most five digits.
@@ -39,20 +33,18 @@ fn times(line: &[u8], from: usize) -> Repeat
     requires { from ≤ length line.now }
     ensures { (from ≤ result.next) × (result.value ≤ 99999) }
 {
-    let mut at = from;
     let mut value: usize = 0;
-    while at < line.len() {
-        let d = digit(line[at]);
-        if 9 < d {
+    for at in from..line.len() {
+        let c = line[at];
+        if !c.is_ascii_digit() || 9999 < value {
             return Repeat { value, next: at };
         }
-        if 9999 < value {
-            return Repeat { value, next: at };
-        }
-        value = value * 10 + (d as usize);
-        at += 1;
+        value = value * 10 + usize::from(c - b'0');
     }
-    Repeat { value, next: at }
+    Repeat {
+        value,
+        next: line.len(),
+    }
 }
 
 // The last `size` of n bytes, gone on with for `more` bytes.
@@ -60,15 +52,9 @@ fn go_on(bytes: &mut [u8], n: usize, size: usize, more: usize) -> usize
     requires { (1 ≤ size) × (size ≤ n) × (n ≤ length bytes.old) }
     ensures { (n ≤ result) × (result ≤ length bytes.new) }
 {
-    let mut end = n;
-    let mut left = more;
-    while 0 < left {
-        if bytes.len() <= end {
-            return end;
-        }
-        bytes[end] = bytes[end - size];
-        end += 1;
-        left -= 1;
+    let end = n.saturating_add(more).min(bytes.len());
+    for i in n..end {
+        bytes[i] = bytes[i - size];
     }
     end
 }
@@ -80,23 +66,15 @@ fn repeated(line: &[u8], bytes: &mut [u8], c: Cursor) -> Cursor
 {
     let n = times(line, c.at + 1);
     let size = c.bytes - c.group;
-    if 0 < size {
-        if size <= 4096 {
-            if 0 < n.value {
-                let end = go_on(bytes, c.bytes, size, (n.value - 1) * size);
-                return Cursor {
-                    at: n.next,
-                    bytes: end,
-                    group: c.group,
-                };
-            }
-        }
+    if 0 < size && size <= 4096 && 0 < n.value {
+        let end = go_on(bytes, c.bytes, size, (n.value - 1) * size);
+        return Cursor {
+            at: n.next,
+            bytes: end,
+            ..c
+        };
     }
-    Cursor {
-        at: n.next,
-        bytes: c.bytes,
-        group: c.group,
-    }
+    Cursor { at: n.next, ..c }
 }
 
 // One sign of the line, or two digits.
@@ -109,34 +87,24 @@ fn token(line: &[u8], bytes: &mut [u8], c: Cursor) -> Cursor
     if line[at] == b'(' {
         return Cursor {
             at: at + 1,
-            bytes: n,
             group: n,
+            ..c
         };
     }
     if line[at] == b'x' {
         return repeated(line, bytes, c);
     }
-    if at + 1 < line.len() {
-        let high = digit(line[at]);
-        let low = digit(line[at + 1]);
-        if high < 16 {
-            if low < 16 {
-                if n < bytes.len() {
-                    bytes[n] = 16 * high + low;
-                    return Cursor {
-                        at: at + 2,
-                        bytes: n + 1,
-                        group: c.group,
-                    };
-                }
-            }
+    if at + 1 < line.len() && n < bytes.len() {
+        if let (Some(high), Some(low)) = (digit(line[at]), digit(line[at + 1])) {
+            bytes[n] = 16 * high + low;
+            return Cursor {
+                at: at + 2,
+                bytes: n + 1,
+                ..c
+            };
         }
     }
-    Cursor {
-        at: at + 1,
-        bytes: n,
-        group: c.group,
-    }
+    Cursor { at: at + 1, ..c }
 }
 
 // Writes the bytes of a line to the front of bytes, as many as it has room for; answers how many they are.

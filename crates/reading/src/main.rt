@@ -9,7 +9,7 @@ ghost use Rattle.std.specs.Prelude.{◌≤◌, ◌<◌, length, IfOk};
 ghost use Rattle.std.specs.Io.{ReadsAtMost};
 
 use hexadecimal::parse;
-use rules::Answer;
+use rules::Refusal;
 use std::io;
 use std::io::Read;
 
@@ -20,44 +20,24 @@ const VECTOR: usize = 28672;
 const INPUT: usize = 65536;
 
 // Says an answer: its number and its place.
-pub fn say(rt: &impl Print, a: Answer) -> io::Result<()> {
+pub fn say<T>(rt: &impl Print, a: &Result<T, Refusal>) -> io::Result<()> {
     print!(rt; "{} at {}", rules::number(a), rules::place(a))
-}
-
-// Whether a and b start with the same n bytes.
-fn same<'a>(a: &'a [u8], b: &'a [u8], n: usize) -> bool {
-    if a.len() < n {
-        return false;
-    }
-    if b.len() < n {
-        return false;
-    }
-    for i in 0..n {
-        if a[i] != b[i] {
-            return false;
-        }
-    }
-    true
 }
 
 // Reads a tree, and writes it back where it is accepted.
 fn report(rt: &impl Print, bytes: &[u8]) -> io::Result<()> {
     let r = records::read(bytes);
-    let a = r.answer;
-    say(rt, a)?;
-    if rules::number(a) == 0 {
-        let t = r.tree;
+    say(rt, &r)?;
+    if let Ok(t) = r {
         let mut room = [0u8; VECTOR];
         let w = writing::write(t, &mut room);
         print!(rt;
             ", {} events, {} gates, written back: ",
             t.event_count, t.gate_count
         )?;
-        say(rt, w.answer)?;
-        if w.bytes == bytes.len() {
-            if same(bytes, &room, w.bytes) {
-                print!(rt; ", the same bytes")?;
-            }
+        say(rt, &w)?;
+        if w.is_ok_and(|n| n == bytes.len()) && room.starts_with(bytes) {
+            print!(rt; ", the same bytes")?;
         }
     }
     println!(rt;)
@@ -75,14 +55,8 @@ fn line_end(text: &[u8], at: usize) -> usize
     requires { at ≤ length text.now }
     ensures { (at ≤ result) × (result ≤ length text.now) }
 {
-    let mut i = at;
-    while i < text.len() {
-        if text[i] == b'\n' {
-            return i;
-        }
-        i += 1;
-    }
-    i
+    let rest = text[at..].iter().position(|b| *b == b'\n');
+    rest.map_or(text.len(), |i| at + i)
 }
 
 // The line that starts at `at`; answers where the next one does.

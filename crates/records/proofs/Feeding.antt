@@ -1,11 +1,12 @@
 -- Past an input of a run: what number 5 asks of the arrays, and what it finds in them.
 -- Assumes nothing.
 use mathlib.Core.Path.{◌≡◌, sym, ap, ◌∙◌}
-use mathlib.Core.List.{List, []}
-use Prim.Native.Nat.{ℕ, ◌+◌, ◌-◌, ◌≤◌}
+use mathlib.Core.List.{List}
+use Prim.Native.Nat.{ℕ, ◌-◌, ◌≤◌}
 use native.Mathlib.Omega.{arith}
 use lib.ListN.{length, get_or, take}
 use lib.Seq.{get_or-take}
+use Rattle.std.specs.Prelude.{Ok}
 use Rattle.paper.specs.Limits.{limits}
 use Rattle.paper.specs.Lists.{sum}
 use Rattle.rules.specs.Rules.{step_of}
@@ -21,7 +22,7 @@ use Rattle.records.proofs.Sums.{some_sizes}
 use Rattle.records.proofs.Starving.{LastTold, told_starved}
 use Rattle.records.proofs.Runs.{Running, running_sound}
 
-module _ {bytes : List ℕ} {s : State} (v : Running bytes s) {i next : ℕ} (e : AddInput i next ≡ step_of limits bytes s) where
+module _ {bytes : List ℕ} {s : State} (v : Running bytes s) {i next : ℕ} (e : Ok (AddInput i next) ≡ step_of limits bytes s) where
   abbrev b : Book
   b = v.book
 

@@ -7,54 +7,53 @@ use Prim.Native.Nat.{ℕ, zero, suc, ◌+◌, ◌-◌, ◌≤◌, ◌<◌}
 use native.Mathlib.Numerals.{add-one}
 use native.Mathlib.Omega.{arith}
 use lib.ListN.{length, drop}
+use Rattle.std.specs.Prelude.{Option, Some, None, Result, Ok, Err}
 use Rattle.paper.specs.Limits.{Limits, limits}
 use Rattle.rules.specs.Format.{record_of}
 use Rattle.rules.specs.Rules.{step_of}
 use Rattle.records.specs.Judge.{Book, start, counts, add_event, add_gate, add_input, starved, last_place, threshold_step, next_step, Outcome, accept, refuse, unused_by, close_of, run, outcome}
 use Rattle.rules.specs.States.{past_event, past_gate, past_input, Bounded}
-use Rattle.rules.specs.declared.Answer.{Answer}
-use Rattle.rules.specs.declared.Answer.TheVariants.{Threshold, Unused}
-use Rattle.records.specs.declared.uses.Found.{Found}
-use Rattle.records.specs.declared.uses.Found.TheVariants.{At, Nothing}
+use Rattle.rules.specs.declared.Refusal.{Refusal}
+use Rattle.rules.specs.declared.Refusal.TheVariants.{Threshold, Unused}
 use Rattle.rules.specs.declared.judge.State.{State}
 use Rattle.rules.specs.declared.judge.Step.{Step}
-use Rattle.rules.specs.declared.judge.Step.TheVariants.{AddEvent, AddGate, AddInput, Close, Refused}
+use Rattle.rules.specs.declared.judge.Step.TheVariants.{AddEvent, AddGate, AddInput, Close}
 use Rattle.rules.proofs.Steps.{OnEvent, OnGate, OnInput, OnClose, Sound, sound_step}
 use Rattle.records.proofs.Keeping.{Kept, kept_start, kept_event, kept_gate, kept_input, kept_bounded}
 use Rattle.records.proofs.Pad.{length_▷}
 use Rattle.records.proofs.Starving.{threshold_elim, threshold_fed}
 
 -- what a step leads to, at any limits
-abbrev pub onward : Limits → ℕ → List ℕ → Book → Step → Outcome
-onward L turns bytes b (AddEvent c site sited next) = run L turns bytes (add_event b c site sited next)
-onward L turns bytes b (AddGate kind k n next) = run L turns bytes (add_gate b kind k n next)
-onward L turns bytes b (AddInput i next) = run L turns bytes (add_input b i next)
-onward L turns bytes b Close = close_of b
-onward L turns bytes b (Refused a) = refuse a
+abbrev pub onward : Limits → ℕ → List ℕ → Book → Result Step Refusal → Outcome
+onward L turns bytes b (Ok (AddEvent c site sited next)) = run L turns bytes (add_event b c site sited next)
+onward L turns bytes b (Ok (AddGate kind k n next)) = run L turns bytes (add_gate b kind k n next)
+onward L turns bytes b (Ok (AddInput i next)) = run L turns bytes (add_input b i next)
+onward L turns bytes b (Ok Close) = close_of b
+onward L turns bytes b (Err a) = refuse a
 
-pub run_step : (L : Limits) (turns : ℕ) (bytes : List ℕ) (b : Book) (x : Step) → next_step L bytes b ≡ x → run L (suc turns) bytes b ≡ onward L turns bytes b x
+pub run_step : (L : Limits) (turns : ℕ) (bytes : List ℕ) (b : Book) (x : Result Step Refusal) → next_step L bytes b ≡ x → run L (suc turns) bytes b ≡ onward L turns bytes b x
 unfolding run
-run_step L turns bytes b (AddEvent c site sited next) e = rw (e, run)
-run_step L turns bytes b (AddGate kind k n next) e = rw (e, run)
-run_step L turns bytes b (AddInput i next) e = rw (e, run)
-run_step L turns bytes b Close e = rw (e, run)
-run_step L turns bytes b (Refused a) e = rw (e, run)
+run_step L turns bytes b (Ok (AddEvent c site sited next)) e = rw (e, run)
+run_step L turns bytes b (Ok (AddGate kind k n next)) e = rw (e, run)
+run_step L turns bytes b (Ok (AddInput i next)) e = rw (e, run)
+run_step L turns bytes b (Ok Close) e = rw (e, run)
+run_step L turns bytes b (Err a) e = rw (e, run)
 
 module _ (turns : ℕ) (bytes : List ℕ) (b : Book) where
-  pub run_event : (c site : ℕ) (sited : Bool) (next : ℕ) → next_step limits bytes b ≡ AddEvent c site sited next → run limits (suc turns) bytes b ≡ run limits turns bytes (add_event b c site sited next)
-  run_event c site sited next e = run_step limits turns bytes b (AddEvent c site sited next) e
+  pub run_event : (c site : ℕ) (sited : Bool) (next : ℕ) → next_step limits bytes b ≡ Ok (AddEvent c site sited next) → run limits (suc turns) bytes b ≡ run limits turns bytes (add_event b c site sited next)
+  run_event c site sited next e = run_step limits turns bytes b (Ok (AddEvent c site sited next)) e
 
-  pub run_gate : (kind k n next : ℕ) → next_step limits bytes b ≡ AddGate kind k n next → run limits (suc turns) bytes b ≡ run limits turns bytes (add_gate b kind k n next)
-  run_gate kind k n next e = run_step limits turns bytes b (AddGate kind k n next) e
+  pub run_gate : (kind k n next : ℕ) → next_step limits bytes b ≡ Ok (AddGate kind k n next) → run limits (suc turns) bytes b ≡ run limits turns bytes (add_gate b kind k n next)
+  run_gate kind k n next e = run_step limits turns bytes b (Ok (AddGate kind k n next)) e
 
-  pub run_input : (i next : ℕ) → next_step limits bytes b ≡ AddInput i next → run limits (suc turns) bytes b ≡ run limits turns bytes (add_input b i next)
-  run_input i next e = run_step limits turns bytes b (AddInput i next) e
+  pub run_input : (i next : ℕ) → next_step limits bytes b ≡ Ok (AddInput i next) → run limits (suc turns) bytes b ≡ run limits turns bytes (add_input b i next)
+  run_input i next e = run_step limits turns bytes b (Ok (AddInput i next)) e
 
-  pub run_close : next_step limits bytes b ≡ Close → run limits (suc turns) bytes b ≡ close_of b
-  run_close e = run_step limits turns bytes b Close e
+  pub run_close : next_step limits bytes b ≡ Ok Close → run limits (suc turns) bytes b ≡ close_of b
+  run_close e = run_step limits turns bytes b (Ok Close) e
 
-  pub run_refused : (a : Answer) → next_step limits bytes b ≡ Refused a → run limits (suc turns) bytes b ≡ refuse a
-  run_refused a e = run_step limits turns bytes b (Refused a) e
+  pub run_refused : (a : Refusal) → next_step limits bytes b ≡ Err a → run limits (suc turns) bytes b ≡ refuse a
+  run_refused a e = run_step limits turns bytes b (Err a) e
 
 pub record Running (bytes : List ℕ) (s : State) : Type 0 where
   pub book : Book
@@ -80,14 +79,14 @@ module _ {bytes : List ℕ} {s : State} (v : Running bytes s) where
   pub go_on : (b : Book) (turns : ℕ) → v.turns ≡ suc turns → run limits (suc v.turns) bytes v.book ≡ run limits v.turns bytes b → run limits (suc turns) bytes b ≡ outcome limits bytes
   go_on b turns e r = ap (λ (n : ℕ). run limits n bytes b) (sym e) ∙ sym r ∙ v.same
 
-  pub step_is : {r : Step} → r ≡ step_of limits bytes s → next_step limits bytes v.book ≡ threshold_step v.book r
+  pub step_is : {r : Result Step Refusal} → r ≡ step_of limits bytes s → next_step limits bytes v.book ≡ threshold_step v.book r
   unfolding next_step
   step_is e = ap (threshold_step v.book) (sym (e ∙ ap (step_of limits bytes) v.state))
 
-  pub running_sound : {r : Step} → r ≡ step_of limits bytes s → Sound (length bytes) s (record_of limits (drop s.at bytes)) r
+  pub running_sound : {r : Result Step Refusal} → r ≡ step_of limits bytes s → Sound (length bytes) s (record_of limits (drop s.at bytes)) r
   running_sound e = rw e (sound_step bytes s v.within)
 
-  unfoldable pub running_event : (c site : ℕ) (sited : Bool) (next : ℕ) → AddEvent c site sited next ≡ step_of limits bytes s
+  unfoldable pub running_event : (c site : ℕ) (sited : Bool) (next : ℕ) → Ok (AddEvent c site sited next) ≡ step_of limits bytes s
       → Running bytes (past_event s sited next)
   running_event c site sited next e =
       let on = running_sound e in
@@ -102,7 +101,7 @@ module _ {bytes : List ℕ} {s : State} (v : Running bytes s) where
         same = go_on _ turns d (run_event _ _ _ c site sited next (step_is e));
       }
 
-  unfoldable pub running_gate : (kind k n next : ℕ) → AddGate kind k n next ≡ step_of limits bytes s
+  unfoldable pub running_gate : (kind k n next : ℕ) → Ok (AddGate kind k n next) ≡ step_of limits bytes s
       → Running bytes (past_gate s n next)
   running_gate kind k n next e =
       let on = running_sound e in
@@ -117,7 +116,7 @@ module _ {bytes : List ℕ} {s : State} (v : Running bytes s) where
         same = go_on _ turns d (run_gate _ _ _ kind k n next (step_is e));
       }
 
-  unfoldable pub running_input : (i next : ℕ) → AddInput i next ≡ step_of limits bytes s → starved (add_input v.book i next) ≡ false
+  unfoldable pub running_input : (i next : ℕ) → Ok (AddInput i next) ≡ step_of limits bytes s → starved (add_input v.book i next) ≡ false
       → Running bytes (past_input s next)
   running_input i next e fed =
       let on = running_sound e in
@@ -133,14 +132,14 @@ module _ {bytes : List ℕ} {s : State} (v : Running bytes s) where
       }
 
   -- the last gate has got its inputs, and its k is wrong
-  pub running_starved : (i next : ℕ) → AddInput i next ≡ step_of limits bytes s → starved (add_input v.book i next) ≡ true
+  pub running_starved : (i next : ℕ) → Ok (AddInput i next) ≡ step_of limits bytes s → starved (add_input v.book i next) ≡ true
       → outcome limits bytes ≡ refuse (Threshold (last_place v.book))
   running_starved i next e wrong = sym v.same ∙ run_refused _ _ _ (Threshold (last_place v.book)) (step_is e ∙ rw wrong)
 
-  pub running_close : Close ≡ step_of limits bytes s → outcome limits bytes ≡ close_of v.book
+  pub running_close : Ok Close ≡ step_of limits bytes s → outcome limits bytes ≡ close_of v.book
   running_close e = sym v.same ∙ run_close _ _ _ (step_is e)
 
-  pub running_refused : (a : Answer) → Refused a ≡ step_of limits bytes s → outcome limits bytes ≡ refuse a
+  pub running_refused : (a : Refusal) → Err a ≡ step_of limits bytes s → outcome limits bytes ≡ refuse a
   running_refused a e = sym v.same ∙ run_refused _ _ _ a (step_is e)
 
   pub running_bounded : Bounded s
@@ -152,10 +151,10 @@ module _ {bytes : List ℕ} {s : State} (v : Running bytes s) where
 pub sound_next : (bytes : List ℕ) (b : Book) → b.at ≤ length bytes → Sound (length bytes) (counts b) (record_of limits (drop b.at bytes)) (next_step limits bytes b)
 unfolding next_step
 sound_next bytes b h =
-    threshold_elim b (Sound (length bytes) (counts b) (record_of limits (drop b.at bytes))) (λ p q. let z : ◌≡◌ {A = ℕ} 0 1 = cc in omega arith)
+    threshold_elim b (Sound (length bytes) (counts b) (record_of limits (drop b.at bytes))) (λ p. tt)
     (step_of limits bytes (counts b)) (sound_step bytes (counts b) h)
 
-pub next_fed : (bytes : List ℕ) (b : Book) {i next : ℕ} → next_step limits bytes b ≡ AddInput i next → starved (add_input b i next) ≡ false
+pub next_fed : (bytes : List ℕ) (b : Book) {i next : ℕ} → next_step limits bytes b ≡ Ok (AddInput i next) → starved (add_input b i next) ≡ false
 unfolding next_step
 next_fed bytes b e = threshold_fed b (step_of limits bytes (counts b)) e
 
@@ -163,22 +162,22 @@ pub close_is : (b b' : Book) → close_of b ≡ accept b' → b ≡ b'
 unfolding close_of
 close_is b b' e = go (unused_by b) refl
   where
-    go : (f : Found) → unused_by b ≡ f → b ≡ b'
-    go (At p) q = let d : refuse (Unused p) ≡ accept b' = sym (rw (q, close_of)) ∙ e in let z : ◌≡◌ {A = ℕ} 0 1 = cc in absurd (omega arith)
-    go Nothing q = let d : accept b ≡ accept b' = sym (rw (q, close_of)) ∙ e in cc
+    go : (f : Option ℕ) → unused_by b ≡ f → b ≡ b'
+    go (Some p) q = let d : refuse (Unused p) ≡ accept b' = sym (rw (q, close_of)) ∙ e in let z : ◌≡◌ {A = ℕ} 0 1 = cc in absurd (omega arith)
+    go None q = let d : accept b ≡ accept b' = sym (rw (q, close_of)) ∙ e in cc
 
-pub close_none : (b b' : Book) → close_of b ≡ accept b' → unused_by b ≡ Nothing
+pub close_none : (b b' : Book) → close_of b ≡ accept b' → unused_by b ≡ None
 unfolding close_of
 close_none b b' e = go (unused_by b) refl
   where
-    go : (f : Found) → unused_by b ≡ f → unused_by b ≡ Nothing
-    go (At p) q = let d : refuse (Unused p) ≡ accept b' = sym (rw (q, close_of)) ∙ e in let z : ◌≡◌ {A = ℕ} 0 1 = cc in absurd (omega arith)
-    go Nothing q = q
+    go : (f : Option ℕ) → unused_by b ≡ f → unused_by b ≡ None
+    go (Some p) q = let d : refuse (Unused p) ≡ accept b' = sym (rw (q, close_of)) ∙ e in let z : ◌≡◌ {A = ℕ} 0 1 = cc in absurd (omega arith)
+    go None q = q
 
 -- what is known of a book that is accepted: what every run keeps, that nothing is unused, and what the end record found
 pub record Closed (bytes : List ℕ) (P : Book → Type 0) (b : Book) : Type 0 where
   pub kept : Kept b
-  pub used : unused_by b ≡ Nothing
+  pub used : unused_by b ≡ None
   pub close : OnClose (length bytes) (counts b) (record_of limits (drop b.at bytes))
   pub holds : P b
 
@@ -193,19 +192,19 @@ module _
   where
     along_step : (turns : ℕ) (b : Book) → Kept b → P b
         → ((x : Book) → Kept x → P x → x.at ≤ length bytes → run limits turns bytes x ≡ accept b' → Closed bytes P b')
-        → run limits (suc turns) bytes b ≡ accept b' → (x : Step) → next_step limits bytes b ≡ x
+        → run limits (suc turns) bytes b ≡ accept b' → (x : Result Step Refusal) → next_step limits bytes b ≡ x
         → Sound (length bytes) (counts b) (record_of limits (drop b.at bytes)) x → Closed bytes P b'
-    along_step turns b k p on e (AddEvent c site sited next) q s =
+    along_step turns b k p on e (Ok (AddEvent c site sited next)) q s =
         on (add_event b c site sited next) (kept_event k s) (event b c site sited next k p s) s.inside (sym (run_event turns bytes b c site sited next q) ∙ e)
-    along_step turns b k p on e (AddGate kind least n next) q s =
+    along_step turns b k p on e (Ok (AddGate kind least n next)) q s =
         on (add_gate b kind least n next) (kept_gate k (drop b.at bytes) refl s) (gate b kind least n next k p s) s.inside
         (sym (run_gate turns bytes b kind least n next q) ∙ e)
-    along_step turns b k p on e (AddInput i next) q s =
+    along_step turns b k p on e (Ok (AddInput i next)) q s =
         on (add_input b i next) (kept_input k s (next_fed bytes b q)) (input b i next k p s) s.inside (sym (run_input turns bytes b i next q) ∙ e)
-    along_step turns b k p on e Close q s =
+    along_step turns b k p on e (Ok Close) q s =
         let closed : close_of b ≡ accept b' = sym (run_close turns bytes b q) ∙ e in
         rw (← close_is b b' closed) (record { kept = k; used = close_none b b' closed; close = s; holds = p })
-    along_step turns b k p on e (Refused a) q s =
+    along_step turns b k p on e (Err a) q s =
         let d : refuse a ≡ accept b' = sym (run_refused turns bytes b a q) ∙ e in let z : ◌≡◌ {A = ℕ} 0 1 = cc in absurd (omega arith)
 
     along : (turns : ℕ) (b : Book) → Kept b → P b → b.at ≤ length bytes → run limits turns bytes b ≡ accept b' → Closed bytes P b'

@@ -6,6 +6,7 @@ use mathlib.Core.List.{List, []}
 use Prim.Native.Nat.{ℕ, ◌-◌, ◌≤◌, ◌<◌}
 use native.Mathlib.Omega.{arith}
 use lib.ListN.{length, get_or, set}
+use Rattle.std.specs.Prelude.{Ok}
 use Rattle.paper.specs.Limits.{limits}
 use Rattle.rules.specs.Rules.{step_of}
 use Rattle.records.specs.Judge.{Book, start, counts, add_event, add_gate, add_input, starved, refuse, outcome}
@@ -13,7 +14,7 @@ use Rattle.records.specs.Thresholds.{starved_by}
 use Rattle.rules.specs.States.{past_event, past_gate, past_input}
 use Rattle.records.specs.Memory.{pad, memory}
 use Rattle.records.specs.Inner.{Counted, Fronts, Held}
-use Rattle.rules.specs.declared.Answer.TheVariants.{Threshold}
+use Rattle.rules.specs.declared.Refusal.TheVariants.{Threshold}
 use Rattle.rules.specs.declared.judge.State.{State}
 use Rattle.rules.specs.declared.judge.Step.TheVariants.{AddEvent, AddGate, AddInput}
 use Rattle.records.specs.declared.Tree.{Tree}
@@ -186,7 +187,7 @@ standing_start bytes = record {
 }
 
 module _ {bytes : List ℕ} {t : Tree} {ps : List ℕ} {s : State} (v : Standing bytes t ps s) where
-  pub standing_event : (c site : ℕ) (sited : Bool) (next : ℕ) → AddEvent c site sited next ≡ step_of limits bytes s
+  pub standing_event : (c site : ℕ) (sited : Bool) (next : ℕ) → Ok (AddEvent c site sited next) ≡ step_of limits bytes s
       → Standing bytes (with_event t s.events c site) ps (past_event s sited next)
   unfolding running_event
   standing_event c site sited next e =
@@ -194,7 +195,7 @@ module _ {bytes : List ℕ} {t : Tree} {ps : List ℕ} {s : State} (v : Standing
       let p = v.running.state in
       record { running = running_event v.running c site sited next e; held = rw (ap (λ (x : State). x.events) p) (held_event v.held v.running.kept c site sited next (rw p at on.few)) }
 
-  pub standing_gate : (kind k n next : ℕ) → AddGate kind k n next ≡ step_of limits bytes s
+  pub standing_gate : (kind k n next : ℕ) → Ok (AddGate kind k n next) ≡ step_of limits bytes s
       → Standing bytes (with_gate t s.gates kind k n) (set ps s.gates s.at) (past_gate s n next)
   unfolding running_gate
   standing_gate kind k n next e =
@@ -206,7 +207,7 @@ module _ {bytes : List ℕ} {t : Tree} {ps : List ℕ} {s : State} (v : Standing
       }
 
   -- past an input: what the arrays tell of the last gate
-  module _ {i next : ℕ} (e : AddInput i next ≡ step_of limits bytes s) where
+  module _ {i next : ℕ} (e : Ok (AddInput i next) ≡ step_of limits bytes s) where
     abbrev fed : Bool
     fed = starved_by t.kinds t.leasts t.sizes (set t.inputs s.inputs i) (past_input s next)
 

@@ -9,14 +9,16 @@ use lib.Dec.{eqb}
 use lib.ListN.{length, get_or, take, drop, length-take, length-drop, take-append-drop, get_or-append}
 use lib.Seq.{take-append-le, drop-append-le}
 use borrow.Author.Tests.{eqb-true, eqb-false, eq-eqb, ne_eqb}
+use Rattle.std.specs.Prelude.{Result, Ok, Err}
 use Rattle.paper.specs.Lists.{sum}
 use Rattle.twins.specs.Distinct.{distinct_codes}
 use Rattle.twins.proofs.Firsts.{firsts_length}
 use Rattle.rules.specs.Rules.{wrong_k}
-use Rattle.rules.specs.declared.Answer.TheVariants.{Threshold}
+use Rattle.rules.specs.declared.Refusal.{Refusal}
+use Rattle.rules.specs.declared.Refusal.TheVariants.{Threshold}
 use Rattle.rules.specs.declared.judge.State.{State}
 use Rattle.rules.specs.declared.judge.Step.{Step}
-use Rattle.rules.specs.declared.judge.Step.TheVariants.{AddEvent, AddGate, AddInput, Close, Refused}
+use Rattle.rules.specs.declared.judge.Step.TheVariants.{AddEvent, AddGate, AddInput, Close}
 use Rattle.rules.proofs.Cases.{if_elim, either}
 use Rattle.records.specs.Thresholds.{inputs_at, distinct_at, wrong_at, starved_by}
 use Rattle.records.specs.Inner.{Counted}
@@ -127,25 +129,25 @@ module _ {b : Book} {kinds leasts sizes inputs : List ℕ} (told : LastTold b ki
 -- ---- a step, with number 5 judged
 
 -- what holds of a step, and of a refusal with 5, holds then
-pub threshold_elim : (b : Book) (P : Step → Type 0) → ((p : ℕ) → P (Refused (Threshold p))) → (x : Step) → P x → P (threshold_step b x)
-threshold_elim b P five (AddEvent c site sited next) h = h
-threshold_elim b P five (AddGate kind k n next) h = h
-threshold_elim b P five (AddInput i next) h = if_elim P (starved (add_input b i next)) (λ _. five (last_place b)) (λ _. h)
-threshold_elim b P five Close h = h
-threshold_elim b P five (Refused a) h = h
+pub threshold_elim : (b : Book) (P : Result Step Refusal → Type 0) → ((p : ℕ) → P (Err (Threshold p))) → (x : Result Step Refusal) → P x → P (threshold_step b x)
+threshold_elim b P five (Ok (AddEvent c site sited next)) h = h
+threshold_elim b P five (Ok (AddGate kind k n next)) h = h
+threshold_elim b P five (Ok (AddInput i next)) h = if_elim P (starved (add_input b i next)) (λ _. five (last_place b)) (λ _. h)
+threshold_elim b P five (Ok Close) h = h
+threshold_elim b P five (Err a) h = h
 
 -- an input that is taken leaves its gate with a right k, or with inputs to come
-pub threshold_fed : (b : Book) (x : Step) {i next : ℕ} → threshold_step b x ≡ AddInput i next → starved (add_input b i next) ≡ false
-threshold_fed b (AddEvent c site sited m) e = let z : ◌≡◌ {A = ℕ} 0 1 = cc in absurd (omega arith)
-threshold_fed b (AddGate kind k n m) e = let z : ◌≡◌ {A = ℕ} 0 1 = cc in absurd (omega arith)
-threshold_fed b (AddInput j m) {i} {next} e = go (starved (add_input b j m)) refl
+pub threshold_fed : (b : Book) (x : Result Step Refusal) {i next : ℕ} → threshold_step b x ≡ Ok (AddInput i next) → starved (add_input b i next) ≡ false
+threshold_fed b (Ok (AddEvent c site sited m)) e = let z : ◌≡◌ {A = ℕ} 0 1 = cc in absurd (omega arith)
+threshold_fed b (Ok (AddGate kind k n m)) e = let z : ◌≡◌ {A = ℕ} 0 1 = cc in absurd (omega arith)
+threshold_fed b (Ok (AddInput j m)) {i} {next} e = go (starved (add_input b j m)) refl
   where
     go : (t : Bool) → starved (add_input b j m) ≡ t → starved (add_input b i next) ≡ false
-    go true q = let d : Refused (Threshold (last_place b)) ≡ AddInput i next = rw q at e in let z : ◌≡◌ {A = ℕ} 0 1 = cc in absurd (omega arith)
+    go true q = let d : Err (Threshold (last_place b)) ≡ Ok (AddInput i next) = rw q at e in let z : ◌≡◌ {A = ℕ} 0 1 = cc in absurd (omega arith)
     go false q =
-        let d : AddInput j m ≡ AddInput i next = rw q at e in
+        let d : Ok (AddInput j m) ≡ Ok (AddInput i next) = rw q at e in
         let a : i ≡ j = cc in
         let n : next ≡ m = cc in
         rw (a, n) q
-threshold_fed b Close e = let z : ◌≡◌ {A = ℕ} 0 1 = cc in absurd (omega arith)
-threshold_fed b (Refused a) e = let z : ◌≡◌ {A = ℕ} 0 1 = cc in absurd (omega arith)
+threshold_fed b (Ok Close) e = let z : ◌≡◌ {A = ℕ} 0 1 = cc in absurd (omega arith)
+threshold_fed b (Err a) e = let z : ◌≡◌ {A = ℕ} 0 1 = cc in absurd (omega arith)

@@ -1,6 +1,6 @@
 -- A TREE OF THE PAPER LAID OUT as memory holds it; and the rules of a tree on the tree itself.
 -- Assumes nothing.
-use Rattle.std.specs.Prelude.{◌≡◌, true, false, List, [], ◌∷◌, map, ℕ, ◌+◌, ◌≤◌, ◌<◌, length}
+use Rattle.std.specs.Prelude.{◌≡◌, true, false, List, [], map, ℕ, ◌+◌, ◌≤◌, ◌<◌, length}
 use Rattle.paper.specs.Limits.{Limits}
 use Rattle.paper.specs.Lists.{In, flat}
 use Rattle.paper.specs.Trees.{Input, event, gate, forced, Gate, and_g, or_g, least_g, Tree, events, TreeBelow}

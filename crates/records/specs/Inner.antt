@@ -1,20 +1,16 @@
 -- What the functions inside ask of their callers and tell them.
-use Rattle.std.specs.Prelude.{ℕ, ◌+◌, ◌-◌, ◌≤◌, ◌<◌, ◌≡◌, List, length, get_or, take}
+use Rattle.std.specs.Prelude.{ℕ, ◌+◌, ◌-◌, ◌≤◌, ◌<◌, ◌≡◌, List, length, get_or, take, Option, Some, None}
 use Rattle.paper.specs.Limits.{limits}
 use Rattle.paper.specs.Lists.{sum}
 use Rattle.records.specs.Judge.{Book, counts, unused_by}
 use Rattle.records.specs.Memory.{pad, no_event}
-use Rattle.records.specs.declared.Reading.{Reading}
 use Rattle.records.specs.declared.Tree.{Tree}
 use Rattle.rules.specs.declared.judge.State.{State}
-use Rattle.rules.specs.declared.Answer.TheVariants.{Done}
-use Rattle.records.specs.declared.uses.Found.{Found}
-use Rattle.records.specs.declared.uses.Found.TheVariants.{At, Nothing}
 
 -- what is found is one of the n
-abbrev pub Below : ℕ → Found → Type 0
-Below n (At i) = i < n
-Below n Nothing = Unit {0}
+abbrev pub Below : ℕ → Option ℕ → Type 0
+Below n (Some i) = i < n
+Below n None = Unit {0}
 
 -- what the search for the last gate's distinct inputs asks of a tree: a gate, within the limits, and as many inputs wanted as the gates have
 pub record Counted (sizes : List ℕ) (s : State) : Type 0 where
@@ -46,7 +42,7 @@ pub record Fronts (b : Book) (ns ps is : List ℕ) : Type 0 where
 abbrev pub Ready : List ℕ → List ℕ → List ℕ → State → Type 0
 Ready sizes places inputs s = (b : Book) × Fronts b sizes places inputs × (s ≡ counts b) × (1 ≤ length b.sizes) × (b.left ≡ 0)
 
-abbrev pub Seeks : List ℕ → List ℕ → List ℕ → State → Found → Type 0
+abbrev pub Seeks : List ℕ → List ℕ → List ℕ → State → Option ℕ → Type 0
 Seeks sizes places inputs s r = (b : Book) → Fronts b sizes places inputs → s ≡ counts b → r ≡ unused_by b
 
 -- t's arrays and ps hold what b has, with zeros behind it
@@ -58,18 +54,15 @@ pub record Held (b : Book) (t : Tree) (ps : List ℕ) : Type 0 where
   pub inputs : t.inputs ≡ pad limits.in_all 0 b.inputs
   pub places : ps ≡ pad limits.gates 0 b.places
 
--- t with the counts of s, answered
-abbrev pub whole : Tree → State → Reading
+-- t with the counts of s
+abbrev pub whole : Tree → State → Tree
 whole t s = record {
-  answer = Done;
-  tree = record {
-    events = t.events;
-    event_count = s.events;
-    kinds = t.kinds;
-    leasts = t.leasts;
-    sizes = t.sizes;
-    gate_count = s.gates;
-    inputs = t.inputs;
-    sited = s.sited;
-  };
+  events = t.events;
+  event_count = s.events;
+  kinds = t.kinds;
+  leasts = t.leasts;
+  sizes = t.sizes;
+  gate_count = s.gates;
+  inputs = t.inputs;
+  sited = s.sited;
 }

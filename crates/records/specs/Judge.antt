@@ -1,5 +1,5 @@
 -- Reading goes record by record, and the first faulty record decides.
-use Rattle.std.specs.Prelude.{ℕ, zero, suc, ◌+◌, ◌-◌, Bool, false, List, [], ◌∷◌, ◌++◌, length, get_or}
+use Rattle.std.specs.Prelude.{ℕ, zero, suc, ◌+◌, ◌-◌, Bool, false, List, [], ◌∷◌, ◌++◌, length, get_or, Option, Some, None, Result, Ok, Err}
 use Rattle.paper.specs.Answers.{Verdict}
 use Rattle.paper.specs.Limits.{Limits}
 use Rattle.rules.specs.Answers.{verdict}
@@ -7,14 +7,12 @@ use Rattle.std.specs.Prelude.{if◌then◌else◌}
 use Rattle.rules.specs.Rules.{step_of}
 use Rattle.records.specs.Thresholds.{starved_by}
 use Rattle.records.specs.Uses.{unused_of}
-use Rattle.rules.specs.declared.Answer.{Answer}
-use Rattle.rules.specs.declared.Answer.TheVariants.{Done, Cut, Threshold, Unused}
+use Rattle.rules.specs.declared.Refusal.{Refusal}
+use Rattle.rules.specs.declared.Refusal.TheVariants.{Cut, Threshold, Unused}
 use Rattle.records.specs.declared.Event.{Event}
 use Rattle.rules.specs.declared.judge.State.{State}
 use Rattle.rules.specs.declared.judge.Step.{Step}
-use Rattle.rules.specs.declared.judge.Step.TheVariants.{AddEvent, AddGate, AddInput, Close, Refused}
-use Rattle.records.specs.declared.uses.Found.{Found}
-use Rattle.records.specs.declared.uses.Found.TheVariants.{At, Nothing}
+use Rattle.rules.specs.declared.judge.Step.TheVariants.{AddEvent, AddGate, AddInput, Close}
 
 -- What has been read: the place of the next record, how many inputs the last gate still wants, and the tree so far: its events,
 -- and whether their records have sites; each gate's kind, k, n and place; the inputs of all gates in a row.
@@ -87,46 +85,49 @@ abbrev pub last_place : Book → ℕ
 last_place b = get_or b.places (length b.sizes - 1) 0
 
 -- number 5 is decided after a gate's last input and before the next record is looked at, at the place of the gate's record
-abbrev pub threshold_step : Book → Step → Step
-threshold_step b (AddInput i next) = if starved (add_input b i next) then Refused (Threshold (last_place b)) else AddInput i next
-threshold_step b (AddEvent c site sited next) = AddEvent c site sited next
-threshold_step b (AddGate kind k n next) = AddGate kind k n next
-threshold_step b Close = Close
-threshold_step b (Refused a) = Refused a
+abbrev pub threshold_step : Book → Result Step Refusal → Result Step Refusal
+threshold_step b (Ok (AddInput i next)) = if starved (add_input b i next) then Err (Threshold (last_place b)) else Ok (AddInput i next)
+threshold_step b (Ok (AddEvent c site sited next)) = Ok (AddEvent c site sited next)
+threshold_step b (Ok (AddGate kind k n next)) = Ok (AddGate kind k n next)
+threshold_step b (Ok Close) = Ok Close
+threshold_step b (Err a) = Err a
 
 -- what the next record of the bytes does to b
-unfoldable pub next_step : Limits → List ℕ → Book → Step
+unfoldable pub next_step : Limits → List ℕ → Book → Result Step Refusal
 next_step L bytes b = threshold_step b (step_of L bytes (counts b))
 
 pub data Outcome : Type 0 where
   accept : Book → Outcome
-  refuse : Answer → Outcome
+  refuse : Refusal → Outcome
 
 -- the place of the lowest unused event, else of the lowest unused gate but the root
-abbrev pub unused_by : Book → Found
+abbrev pub unused_by : Book → Option ℕ
 unused_by b = unused_of b.sited (length b.events) b.sizes b.places b.inputs
 
 unfoldable pub close_of : Book → Outcome
-close_of b = elim (unused_by b) [ At place ↦ refuse (Unused place) | Nothing ↦ accept b ]
+close_of b = elim (unused_by b) [ Some place ↦ refuse (Unused place) | None ↦ accept b ]
 
 -- the records from b on; each is at least a byte long, so as many turns as there are bytes, and one, are enough
 unfoldable pub run : Limits → ℕ → List ℕ → Book → Outcome
 run L zero bytes b = refuse (Cut (length bytes))
 run L (suc turns) bytes b =
     elim (next_step L bytes b) [
-      | AddEvent c site sited next ↦ run L turns bytes (add_event b c site sited next)
-      | AddGate kind k n next ↦ run L turns bytes (add_gate b kind k n next)
-      | AddInput i next ↦ run L turns bytes (add_input b i next)
-      | Close ↦ close_of b
-      | Refused a ↦ refuse a
+      | Ok s ↦
+          elim s [
+            | AddEvent c site sited next ↦ run L turns bytes (add_event b c site sited next)
+            | AddGate kind k n next ↦ run L turns bytes (add_gate b kind k n next)
+            | AddInput i next ↦ run L turns bytes (add_input b i next)
+            | Close ↦ close_of b
+          ]
+      | Err a ↦ refuse a
     ]
 
 unfoldable pub outcome : Limits → List ℕ → Outcome
 outcome L bytes = run L (length bytes + 1) bytes start
 
-abbrev pub answer_of : Outcome → Answer
-answer_of (accept b) = Done
-answer_of (refuse a) = a
+abbrev pub answer_of : Outcome → Result Book Refusal
+answer_of (accept b) = Ok b
+answer_of (refuse a) = Err a
 
 -- the paper's number and place for some bytes
 unfoldable pub judge : Limits → List ℕ → Verdict

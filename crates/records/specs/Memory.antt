@@ -1,10 +1,9 @@
 -- A tree that was read, in memory: each of its lists fills an array from the front, with zeros behind it.
-use Rattle.std.specs.Prelude.{ℕ, zero, suc, ◌-◌, List, [], ◌∷◌, ◌++◌, length, replicate}
+use Rattle.std.specs.Prelude.{ℕ, zero, suc, ◌-◌, List, [], ◌∷◌, ◌++◌, length, replicate, Result, Ok, Err}
 use Rattle.paper.specs.Limits.{limits}
-use Rattle.records.specs.Judge.{Book, start, Outcome, accept, refuse}
-use Rattle.rules.specs.declared.Answer.TheVariants.{Done}
+use Rattle.records.specs.Judge.{Book, Outcome, accept, refuse}
+use Rattle.rules.specs.declared.Refusal.{Refusal}
 use Rattle.records.specs.declared.Event.{Event}
-use Rattle.records.specs.declared.Reading.{Reading}
 use Rattle.records.specs.declared.Tree.{Tree}
 
 -- xs, and z as often as it takes to make n of them
@@ -26,10 +25,10 @@ memory b = record {
   inputs = pad limits.in_all 0 b.inputs;
 }
 
--- what reading answers; a refused tree is all zero
-unfoldable pub in_memory : Outcome → Reading
-in_memory (accept b) = record { answer = Done; tree = memory b }
-in_memory (refuse a) = record { answer = a; tree = memory start }
+-- what reading answers
+unfoldable pub in_memory : Outcome → Result Tree Refusal
+in_memory (accept b) = Ok (memory b)
+in_memory (refuse a) = Err a
 
 -- f 0 .. f (n - 1)
 unfoldable pub tabulate : {A : Type 0} → ℕ → (ℕ → A) → List A

@@ -7,15 +7,15 @@ pub mod uses; // the search for an item that is an input nowhere: number 8
 ghost use Rattle.std.specs.Prelude.{◌≡◌};
 ghost use Rattle.paper.specs.Limits.{limits};
 ghost use Rattle.rules.specs.Answers.{verdict};
-ghost use Rattle.records.specs.Judge.{start, refuse, outcome, judge};
+ghost use Rattle.records.specs.Judge.{start, outcome, judge};
 ghost use Rattle.records.specs.Memory.{no_event, memory, in_memory};
 ghost use Rattle.records.specs.Inner.{whole};
 
 use paper::{EVENTS, GATES, IN_ALL};
-use rules::Answer;
+use rules::Refusal;
 use rules::judge::{State, Step, begin, next, past_event, past_gate, past_input};
 use thresholds::starved;
-use uses::{Found, unused_in};
+use uses::unused_in;
 
 // An event of a tree: its chance in billionths, and its site, 0 where its record has none.
 #[derive(Clone, Copy)]
@@ -36,12 +36,6 @@ pub struct Tree {
     pub gate_count: usize,
     pub inputs: [u16; IN_ALL],
     pub sited: bool,
-}
-
-#[derive(Clone, Copy)]
-pub struct Reading {
-    pub answer: Answer,
-    pub tree: Tree,
 }
 
 // An event that is all zero. As a call's answer it is filled in whole, its padding too, so an array of it is cleared at once.
@@ -69,32 +63,22 @@ pub fn empty() -> Tree
     }
 }
 
-// A refusal: the tree is empty.
-fn refused(answer: Answer) -> Reading
-    ensures { result ≡ in_memory (refuse answer) }
-{
-    let tree = empty();
-    Reading { answer, tree }
-}
-
 // Every record is read, and every item is used: the tree with its counts.
-fn done(t: Tree, s: State) -> Reading
+fn done(t: Tree, s: State) -> Tree
     ensures { result ≡ whole t s }
 {
-    let mut tree = t;
-    tree.event_count = s.events;
-    tree.sited = s.sited;
-    tree.gate_count = s.gates;
-    Reading {
-        answer: Answer::Done,
-        tree,
+    Tree {
+        event_count: s.events,
+        sited: s.sited,
+        gate_count: s.gates,
+        ..t
     }
 }
 
 // Reads a tree, record by record.
-pub fn read(bytes: &[u8]) -> Reading
+pub fn read(bytes: &[u8]) -> Result<Tree, Refusal>
     ensures whole { result ≡ in_memory (outcome limits bytes.now) }
-    ensures numbered { verdict result.answer ≡ judge limits bytes.now }
+    ensures numbered { verdict result ≡ judge limits bytes.now }
 {
     let mut t = empty();
     let mut places = [0usize; GATES];
@@ -103,7 +87,7 @@ pub fn read(bytes: &[u8]) -> Reading
         let n = s.events;
         let g = s.gates;
         let i = s.inputs;
-        match next(bytes, s) {
+        match next(bytes, s)? {
             Step::AddEvent(chance, site, sited, after) => {
                 let e = Event { chance, site };
                 t.events[n] = e;
@@ -121,14 +105,13 @@ pub fn read(bytes: &[u8]) -> Reading
                 s = past_input(s, after);
                 if starved(&t.kinds, &t.leasts, &t.sizes, &t.inputs, s) {
                     let gate = places[g - 1];
-                    return refused(Answer::Threshold(gate));
+                    return Err(Refusal::Threshold(gate));
                 }
             }
             Step::Close => match unused_in(&t.sizes, &places, &t.inputs, s) {
-                Found::At(place) => return refused(Answer::Unused(place)),
-                Found::Nothing => return done(t, s),
+                Some(place) => return Err(Refusal::Unused(place)),
+                None => return Ok(done(t, s)),
             },
-            Step::Refused(a) => return refused(a),
         }
     }
 }

@@ -30,7 +30,6 @@ pub fn starved<'a>(
     let end = s.inputs;
     let first = end - (sizes[g] as usize);
     let mut own = [0u16; INPUTS];
-    let all = &inputs[..];
-    let n = distinct(&all[first..end], &mut own);
+    let n = distinct(&inputs[first..end], &mut own);
     wrong_k(kind, leasts[g], n)
 }

@@ -1,13 +1,11 @@
 -- The answers of both calls, from what their tests and passes showed.
 -- Assumes nothing.
 use mathlib.Core.Path.{◌≡◌, refl, sym, ap, ◌∙◌, subst}
-use mathlib.Core.Logic.{◌≢◌, ◌⊎◌, inl, inr}
 use mathlib.Core.Bool.{Bool, true, false, true≢false}
 use mathlib.Core.List.{List, []}
-use Prim.Native.Nat.{ℕ, ◌+◌, ◌*◌, ◌/◌, ◌≤◌, ◌<◌}
-use native.Mathlib.Decide.{dec_lt}
+use Prim.Native.Nat.{ℕ, ◌+◌, ◌*◌, ◌≤◌, ◌<◌}
 use native.Mathlib.Omega.{arith}
-use lib.ListN.{length, get_or, replicate, length-replicate}
+use lib.ListN.{length, get_or, replicate}
 use Rattle.paper.specs.Limits.{limits}
 use Rattle.paper.specs.Lists.{In}
 use Rattle.paper.specs.Sets.{Set, Within}
@@ -23,9 +21,9 @@ use Rattle.algebra.proofs.Without.{sets_beyond}
 use Rattle.algebra.proofs.Base.{three, Three, below, beyond, equal}
 use Rattle.remaining.specs.Families.{CutDiagram, family, Cleared}
 use Rattle.remaining.specs.Recursion.{some_missing, first_in, count_holding}
-use Rattle.remaining.specs.Counting.{above, capped, value, many_at, Held, FirstOver, Written}
+use Rattle.remaining.specs.Counting.{Held, FirstOver, Written}
 use Rattle.remaining.specs.FirstCut.{Room, Refused, Finds, Searched}
-use Rattle.remaining.specs.Tallies.{Enough, Fits, TooMany, Unwritten, Stopped, Tallied, Summed, over, exact}
+use Rattle.remaining.specs.Tallies.{Enough, TooMany, Unwritten, Summed, over, exact}
 use Rattle.remaining.proofs.Missing.{Tells, first_law, holding_law}
 use Rattle.remaining.proofs.Caps.{cap_exact, cap_over}
 
@@ -71,19 +69,12 @@ pub some_missing_lem : {n : ℕ} {T : List ℕ} {c root : ℕ} (K : Set) {S : Se
 unfolding family
 some_missing_lem {n} {T} {c} {root} K {S} lent q e = subst (FirstMissing n K (sets_of (den T root))) (sym e) (tells K lent true q)
 
-pub refused_now : {why number place : ℕ} {found : Bool} {cut W : List ℕ} → (number ≡ why) × (place ≡ 0) × (found ≡ false) × (cut ≡ replicate words 0)
-    → Refused why number place found cut W W
-refused_now r = record { number_is = r.0; no_place = r.1; not_found = r.2; empty_set = r.3; area = refl }
+pub refused_now : {why : ℕ} {W : List ℕ} → Refused why why 0 false (replicate words 0) W W
+refused_now = record { number_is = refl; no_place = refl; not_found = refl; empty_set = refl; area = refl }
 
-pub searched_none : {n : ℕ} {T : List ℕ} {c root : ℕ} {K : Set} {number place : ℕ} {found : Bool} {cut W W' : List ℕ} → CutDiagram n T c root → some_missing K (den T root) ≡ false
-    → (number ≡ 0) × (place ≡ 0) × (found ≡ false) × (cut ≡ replicate words 0) → Cleared W W' → Searched n K (family T root) number place found cut W W'
-searched_none {n} {T} {c} {root} {K} {number} {place} {found} {cut} lent q r z = record {
-  number_is = r.0;
-  no_place = r.1;
-  long = ap length r.3;
-  finds = subst (λ b. Finds n K (family T root) b cut) (sym r.2) (none_missing K lent q, r.3);
-  area = z;
-}
+pub searched_none : {n : ℕ} {T : List ℕ} {c root : ℕ} {K : Set} {W W' : List ℕ} → CutDiagram n T c root → some_missing K (den T root) ≡ false → Cleared W W'
+    → Searched n K (family T root) 0 0 false (replicate words 0) W W'
+searched_none {K = K} lent q z = record { number_is = refl; no_place = refl; long = refl; finds = (none_missing K lent q, refl); area = z }
 
 -- ---- the counting
 
@@ -99,8 +90,8 @@ held_is : {n : ℕ} {T : List ℕ} {c root : ℕ} (K : Set) → CutDiagram n T c
 unfolding family
 held_is {n} {T} {c} {root} K lent e = holding_law n K 0 e (den T root) (root_ordered lent)
 
-pub unwritten_now : {why number place : ℕ} {C B W : List ℕ} → (number ≡ why) × (place ≡ 0) → Unwritten why number place C B W C B W
-unwritten_now r = record { number_is = r.0; no_place = r.1; counts = refl; below = refl; ways = refl }
+pub unwritten_now : {why : ℕ} {C B W : List ℕ} → Unwritten why why 0 C B W C B W
+unwritten_now = record { number_is = refl; no_place = refl; counts = refl; below = refl; ways = refl }
 
 module _ {n : ℕ} {T : List ℕ} {c root : ℕ} {K : Set} {H : List ℕ} (lent : CutDiagram n T c root) (held : Held T K root H) where
   -- 19: the number of this event was cut off
@@ -115,17 +106,15 @@ module _ {n : ℕ} {T : List ℕ} {c root : ℕ} {K : Set} {H : List ℕ} (lent 
   count_of w f h e l =
       sym (held_is K lent e) ∙ cap_exact (count_holding K e (den T root)) (get_or H (2 * e) 0) (get_or H (2 * e + 1) 0) (held.at e) (f.exact e (omega (arith, h, l))) (w.small e l)
 
-  pub summed_over : {r number place : ℕ} {C B W B' W' : List ℕ} → FirstOver H n r → r < n → (number ≡ 19) × (place ≡ 0) → Cleared B B' → Cleared W W'
-      → Summed n K (family T root) number place C B W C B' W'
-  summed_over f h r x y = over (over_of f h) (record { number_is = r.0; no_place = r.1; counts = refl; below = x; ways = y })
+  pub summed_over : {r : ℕ} {C B W B' W' : List ℕ} → FirstOver H n r → r < n → Cleared B B' → Cleared W W' → Summed n K (family T root) 19 0 C B W C B' W'
+  summed_over f h x y = over (over_of f h) (record { number_is = refl; no_place = refl; counts = refl; below = x; ways = y })
 
-  pub summed_exact : {r number place : ℕ} {C B W C' B' W' : List ℕ} → FirstOver H n r → n ≤ r → (number ≡ 0) × (place ≡ 0) → Written n C H C' → Cleared B B' → Cleared W W'
-      → Summed n K (family T root) number place C B W C' B' W'
-  summed_exact {r} f h a w x y = exact
+  pub summed_exact : {r : ℕ} {C B W C' B' W' : List ℕ} → FirstOver H n r → n ≤ r → Written n C H C' → Cleared B B' → Cleared W W' → Summed n K (family T root) 0 0 C B W C' B' W'
+  summed_exact {r} f h w x y = exact
       (λ e l. subst (λ v. v ≤ largest) (sym (count_of w f h e l)) (w.small e l))
       (record {
-        number_is = a.0;
-        no_place = a.1;
+        number_is = refl;
+        no_place = refl;
         counts = λ e l. w.at e l ∙ sym (count_of w f h e l);
         behind = w.behind;
         long = w.long;

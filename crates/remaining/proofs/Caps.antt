@@ -1,18 +1,18 @@
 -- Numbers that are cut off above the largest: sums and products of such numbers still say what the true one is, or that it is above.
 -- Assumes nothing.
-use mathlib.Core.Path.{◌≡◌, refl, sym, ap, ap₂, ◌∙◌}
+use mathlib.Core.Path.{◌≡◌, refl, sym, ap, ◌∙◌}
 use mathlib.Core.Logic.{◌≢◌, ◌⊎◌, inl, inr}
 use mathlib.Core.Bool.{Bool, true, false}
 use mathlib.Core.List.{List}
-use Prim.Native.Nat.{ℕ, zero, suc, ◌+◌, ◌*◌, ◌/◌, ◌≤◌, ◌<◌, min}
-use native.Mathlib.Nat.{mul-le-mul_right, min-eq_left, min-eq_right, le-div_iff_mul-le, div-lt_iff_lt-mul}
+use Prim.Native.Nat.{ℕ, zero, suc, ◌+◌, ◌*◌, ◌≤◌, ◌<◌}
+use native.Mathlib.Nat.{mul-le-mul_right, min-eq_left, min-eq_right}
 use native.Mathlib.Omega.{arith}
-use lib.Dec.{eqb, leb}
-use lib.ListN.{get_or}
-use borrow.Author.Tests.{eqb-true, eqb-false, leb-true, leb-false}
-use Rattle.tables.specs.Flags.{Says}
+use lib.Dec.{leb}
+use borrow.Author.Tests.{leb-true, leb-false}
 use Rattle.paper.specs.Sizes.{largest}
-use Rattle.remaining.specs.Counting.{above, capped, value, many_at, Stored}
+use Rattle.remaining.specs.Counting.{above, capped, value, amount, many_at, Stored}
+use Rattle.std.specs.Prelude.{Option, None, Some}
+use Rattle.std.specs.Option.{SomeIff}
 
 -- ---- what a number that may be cut off says
 
@@ -23,6 +23,10 @@ cap_below x h = min-eq_left (omega arith)
 pub cap_above : (x : ℕ) → largest < x → capped x ≡ above
 unfolding capped
 cap_above x h = min-eq_right (omega arith)
+
+cap_at : (x : ℕ) → above ≤ x → capped x ≡ above
+unfolding capped
+cap_at x h = min-eq_right h
 
 pub cap_small : (x : ℕ) → capped x ≤ above
 unfolding capped
@@ -48,16 +52,13 @@ pub cap_add : (x y : ℕ) → capped (capped x + capped y) ≡ capped (x + y)
 unfolding capped
 cap_add x y = omega arith
 
--- two words each, and two of the sum: neither number is cut off and the sum fits; or one is, or it does not
-pub sum_fits : (a b c d : ℕ) {x y : ℕ} → (x ≡ a + c) × (y ≡ 0) → b ≡ 0 → d ≡ 0 → a + c ≤ largest → value x y ≡ capped (value a b + value c d)
+-- a number that is stored cut off is read so
+pub cap_read : (x : ℕ) {v a : ℕ} → v ≡ capped a → a ≡ capped x → v ≡ capped x
 unfolding capped
-sum_fits a b c d {x} {y} r p q l = let u = r.0 in let v = r.1 in omega (arith, u, v, p, q, l)
+cap_read x {v} {a} p q = omega (arith, p, q)
 
-pub sum_over : (a b c d : ℕ) {x y : ℕ} → (x ≡ 0) × (y ≡ 1) → b ≢ 0 ⊎ (d ≢ 0 ⊎ (largest < a + c)) → value x y ≡ capped (value a b + value c d)
-unfolding capped
-sum_over a b c d {x} {y} r (inl h) = let u = r.0 in let v = r.1 in omega (arith, u, v, h)
-sum_over a b c d {x} {y} r (inr (inl h)) = let u = r.0 in let v = r.1 in omega (arith, u, v, h)
-sum_over a b c d {x} {y} r (inr (inr h)) = let u = r.0 in let v = r.1 in omega (arith, u, v, h)
+pub sum_over : (x y : ℕ) → above ≤ x + y → above ≡ capped (x + y)
+sum_over x y h = sym (cap_at (x + y) h)
 
 -- ---- products
 
@@ -75,10 +76,6 @@ none_or (suc v) = inr (omega arith)
 cap_none : capped 0 ≡ 0
 unfolding capped
 cap_none = omega arith
-
-cap_at : (x : ℕ) → above ≤ x → capped x ≡ above
-unfolding capped
-cap_at x h = min-eq_right h
 
 cap_under : (x : ℕ) → x < above → capped x ≡ x
 unfolding capped
@@ -100,61 +97,38 @@ cap_mul x y = go (leb above x) refl (leb above y) refl
         (ap capped (swap x above) ∙ one_side y x (leb-true above y q) (none_or x) ∙ ap capped (swap y x))
     go false p false q = rw (cap_under x (leb-false above x p), cap_under y (leb-false above y q))
 
-none_more : (v : ℕ) → v + above * 0 ≡ v
-none_more v = omega arith
+-- one number is 0
+pub product_none : (x y : ℕ) → (x ≡ 0) ⊎ (y ≡ 0) → 0 ≡ capped (x * y)
+product_none x y (inl q) = let e : x * y ≡ 0 = rw q (omega arith) in sym (ap capped e ∙ cap_none)
+product_none x y (inr q) = let e : x * y ≡ 0 = rw q (omega arith) in sym (ap capped e ∙ cap_none)
 
--- it is not 0
-pub some_value : (a b : ℕ) → ((a ≡ 0) × (b ≡ 0) → ⊥) → 0 < value a b
-some_value zero zero h = absurd (h (refl, refl))
-some_value zero (suc b) h = omega arith
-some_value (suc a) b h = omega arith
+-- one is cut off, and the other is not 0
+pub product_over : (x : ℕ) → (x ≡ 0 → ⊥) → above ≡ capped (above * x)
+product_over x h = sym (cap_at (above * x) (big above x (omega arith) (omega (arith, h))))
 
-pub some_low : (a b : ℕ) → ((a ≡ 0) × (b ≡ 0) → ⊥) → b ≡ 0 → 0 < a
-some_low zero b h q = absurd (h (refl, q))
-some_low (suc a) b h q = omega arith
+pub product_above : (x : ℕ) → (x ≡ 0 → ⊥) → above ≡ capped (x * above)
+product_above x h = product_over x h ∙ ap capped (swap above x)
 
--- two words each, and two of the product: one number is 0
-pub product_none : (a b c d : ℕ) {x y : ℕ} → (x ≡ 0) × (y ≡ 0) → ((a ≡ 0) × (b ≡ 0)) ⊎ ((c ≡ 0) × (d ≡ 0)) → value x y ≡ capped (value a b * value c d)
-product_none a b c d {x} {y} r (inl (p, q)) =
-    let e : value a b * value c d ≡ 0 = rw (p, q) (omega arith) in let z = ap capped e ∙ cap_none in let u = r.0 in let v = r.1 in omega (arith, z, u, v)
-product_none a b c d {x} {y} r (inr (p, q)) =
-    let e : value a b * value c d ≡ 0 = rw (p, q) (omega arith) in let z = ap capped e ∙ cap_none in let u = r.0 in let v = r.1 in omega (arith, z, u, v)
-
--- both are at least 1, and one is cut off
-pub product_high : (a b c d : ℕ) {x y : ℕ} → (x ≡ 0) × (y ≡ 1) → ((a ≡ 0) × (b ≡ 0) → ⊥) → ((c ≡ 0) × (d ≡ 0) → ⊥) → b ≢ 0 ⊎ d ≢ 0 → value x y ≡ capped (value a b * value c d)
-product_high a b c d {x} {y} r p q (inl h) =
-    let z = cap_at (value a b * value c d) (big (value a b) (value c d) (omega (arith, h)) (some_value c d q)) in let u = r.0 in let v = r.1 in omega (arith, z, u, v)
-product_high a b c d {x} {y} r p q (inr h) =
-    let z = ap capped (swap (value a b) (value c d)) ∙ cap_at (value c d * value a b) (big (value c d) (value a b) (omega (arith, h)) (some_value a b p)) in
-    let u = r.0 in let v = r.1 in omega (arith, z, u, v)
-
--- neither is, and the product fits, or does not: told by a quotient
-pub product_small : (a c : ℕ) → 0 < a → c ≤ largest / a → a * c ≤ largest
-product_small a c p h = let z = (le-div_iff_mul-le {k = a} {x = c} {y = largest} p).0 h in let w = swap a c in omega (arith, z, w)
-
-pub product_fits : (a b c d : ℕ) {x y : ℕ} → (x ≡ a * c) × (y ≡ 0) → b ≡ 0 → d ≡ 0 → 0 < a → c ≤ largest / a → value x y ≡ capped (value a b * value c d)
-product_fits a b c d {x} {y} r p q s h =
-    let e : value a b * value c d ≡ a * c = rw (p, q) (ap₂ ◌*◌ (none_more a) (none_more c)) in
-    let z = ap capped e ∙ cap_below (a * c) (product_small a c s h) in
-    let u = r.0 in let v = r.1 in omega (arith, z, u, v)
-
-pub product_over : (a b c d : ℕ) {x y : ℕ} → (x ≡ 0) × (y ≡ 1) → b ≡ 0 → d ≡ 0 → 0 < a → largest / a < c → value x y ≡ capped (value a b * value c d)
-product_over a b c d {x} {y} r p q s h =
-    let e : value a b * value c d ≡ a * c = rw (p, q) (ap₂ ◌*◌ (none_more a) (none_more c)) in
-    let l = (div-lt_iff_lt-mul {k = a} {x = largest} {y = c} s).0 h in
-    let w = swap a c in
-    let z = ap capped e ∙ cap_above (a * c) (omega (arith, l, w)) in
-    let u = r.0 in let v = r.1 in omega (arith, z, u, v)
+-- what a checked sum or product gives
+pub checked : (r : Option ℕ) (v : ℕ) → SomeIff r (v < above) v → amount r ≡ capped v
+checked None v h = sym (cap_at v (omega (arith, h)))
+checked (Some w) v h = h.1 ∙ sym (cap_under v h.0)
 
 -- ---- lists of them
 
-pub says_none : (low high : ℕ) → low ≡ 0 → Says (eqb high 0) ((low ≡ 0) × (high ≡ 0))
-says_none low high q = go (eqb high 0) refl
-  where
-    go : (b : Bool) → eqb high 0 ≡ b → Says b ((low ≡ 0) × (high ≡ 0))
-    go true t = (q, eqb-true high 0 t)
-    go false t = λ p. eqb-false high 0 t p.1
+pub read_exact : (low high : ℕ) → high ≡ 0 → low ≤ largest → low ≡ capped (value low high)
+unfolding capped
+read_exact low high q h = omega (arith, q, h)
+
+pub read_over : (low high : ℕ) → high ≢ 0 → above ≡ capped (value low high)
+unfolding capped
+read_over low zero h = absurd (h refl)
+read_over low (suc high) h = omega arith
+
+cap_left : (a b : ℕ) → capped (capped a + b) ≡ capped (a + b)
+unfolding capped
+cap_left a b = omega arith
 
 -- a sum is stored
-pub add_stored : {A A' : List ℕ} {i y v : ℕ} (x : ℕ) → Stored A i v A' → v ≡ capped (y + x) → y ≡ many_at A i → Stored A i (capped (many_at A i + x)) A'
-add_stored {A} {A'} {i} {y} {v} x s q r = record { here = s.here ∙ q ∙ ap (λ a. capped (a + x)) r; there = s.there; long = s.long }
+pub add_stored : {A A' : List ℕ} {i y v : ℕ} (x : ℕ) → Stored A i v A' → v ≡ capped (y + x) → y ≡ capped (many_at A i) → Stored A i (capped (many_at A i + x)) A'
+add_stored {A} {A'} {i} {y} {v} x s q r = record { here = s.here ∙ q ∙ ap (λ a. capped (a + x)) r ∙ cap_left (many_at A i) x; there = s.there; long = s.long }

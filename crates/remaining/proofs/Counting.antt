@@ -1,8 +1,8 @@
 -- The two passes of the counting: how many sets of each node miss K, from the lowest node up; and from the root down how many ways lead to each.
 -- Assumes nothing.
 use mathlib.Core.Path.{◌≡◌, refl, sym, ap, ap₂, ◌∙◌, subst}
-use mathlib.Core.Logic.{◌≢◌, ◌⊎◌, inl, inr}
-use mathlib.Core.Bool.{Bool, true, false, cond}
+use mathlib.Core.Logic.{◌≢◌}
+use mathlib.Core.Bool.{true, false, cond}
 use mathlib.Core.List.{List}
 use Prim.Native.Nat.{ℕ, zero, suc, ◌+◌, ◌-◌, ◌*◌, ◌≤◌, ◌<◌}
 use native.Mathlib.Decide.{ℕ_discrete}
@@ -17,11 +17,11 @@ use Rattle.paper.specs.Diagrams.{Diagram, leaf, node, Ordered}
 use Rattle.paper.specs.Sizes.{largest}
 use Rattle.tables.specs.Table.{den}
 use Rattle.tables.proofs.Den.{den_0, den_1}
-use Rattle.algebra.proofs.Base.{eqb_or, eqb_same, cond_same}
+use Rattle.algebra.proofs.Base.{eqb_same, cond_same}
 use Rattle.remaining.specs.Recursion.{count_missing, count_holding}
 use Rattle.remaining.specs.Nodes.{Reads}
-use Rattle.remaining.specs.Counting.{above, capped, value, many_at, Stored, Counted, weigh, Spreading, Held, Written}
-use Rattle.remaining.proofs.Caps.{cap_add, cap_mul}
+use Rattle.remaining.specs.Counting.{capped, value, many_at, Stored, Counted, weigh, Spreading, Held, Written}
+use Rattle.remaining.proofs.Caps.{cap_add, cap_mul, cap_read}
 
 -- ---- two words for each number
 
@@ -58,9 +58,6 @@ count_node : {n : ℕ} {T : List ℕ} {i e f s : ℕ} (K : Set) → Reads n T i 
 unfolding count_missing
 count_node K r = ap (count_missing K) r.is
 
-pub exact_value : {x y : ℕ} (k : ℕ) → (x ≡ k) × (y ≡ 0) → value x y ≡ k
-exact_value {x} {y} k r = let p = r.0 in let q = r.1 in omega (arith, p, q)
-
 pub counted_start : (T : List ℕ) (K : Set) {B B' B'' : List ℕ} {v u : ℕ} → Stored B 0 v B' → v ≡ 0 → Stored B' 1 u B'' → u ≡ 1 → Counted T K B'' 2
 counted_start T K {B} {B'} {B''} x p y q = record { at = go }
   where
@@ -80,10 +77,10 @@ pub counted_end : {T : List ℕ} {K : Set} {B : List ℕ} {i j : ℕ} → Counte
 counted_end m l = record { at = λ k h. m.at k (omega arith) }
 
 -- a node of an event of K has the sets of its sound branch alone
-pub count_kept : {n : ℕ} {T : List ℕ} {K : Set} {B : List ℕ} {i e f s v : ℕ} → Reads n T i e f s → Counted T K B i → K e ≡ true → v ≡ many_at B s → v ≡ capped (count_missing K (den T i))
+pub count_kept : {n : ℕ} {T : List ℕ} {K : Set} {B : List ℕ} {i e f s v : ℕ} → Reads n T i e f s → Counted T K B i → K e ≡ true → v ≡ capped (many_at B s) → v ≡ capped (count_missing K (den T i))
 count_kept {n} {T} {K} {B} {i} {e} {f} {s} {v} r m k q =
     let z : 0 + count_missing K (den T s) ≡ count_missing K (den T s) = omega arith in
-    q ∙ m.at s r.sound ∙ sym (ap capped (count_node K r ∙ ap (λ b. cond b 0 (count_missing K (den T f)) + count_missing K (den T s)) k ∙ z))
+    cap_read (count_missing K (den T s)) q (m.at s r.sound) ∙ sym (ap capped (count_node K r ∙ ap (λ b. cond b 0 (count_missing K (den T f)) + count_missing K (den T s)) k ∙ z))
 
 pub count_both : {n : ℕ} {T : List ℕ} {K : Set} {B : List ℕ} {i e f s v : ℕ} → Reads n T i e f s → Counted T K B i → K e ≡ false → v ≡ capped (many_at B f + many_at B s)
     → v ≡ capped (count_missing K (den T i))
@@ -189,12 +186,12 @@ module _ {n : ℕ} {T : List ℕ} {K : Set} {root : ℕ} {W H : List ℕ} {i x f
       sp.all e ∙ ap (λ k. sp.met e + weigh sp.ways (λ j. count_holding K e (den T j)) k) q ∙ ap (λ a. sp.met e + a) (weigh_suc sp.ways (λ j. count_holding K e (den T j)) i)
 
   -- the sound branch alone, where the event is one of K
-  pub spread_kept : {W' : List ℕ} {y : ℕ} → K x ≡ true → y ≡ many_at W i → Stored W s (capped (many_at W s + y)) W' → Spreading T K root W' H i
+  pub spread_kept : {W' : List ℕ} {y : ℕ} → K x ≡ true → y ≡ capped (many_at W i) → Stored W s (capped (many_at W s + y)) W' → Spreading T K root W' H i
   spread_kept {W'} {y} k yi t = record {
     ways = w₁;
     met = sp.met;
     long = sp.long;
-    ways_at = λ j h. added sp.ways (sp.ways i) t (sp.ways_at s (let z = r.sound in omega (arith, z))) (yi ∙ sp.ways_at i (omega arith)) j (sp.ways_at j (omega arith));
+    ways_at = λ j h. added sp.ways (sp.ways i) t (sp.ways_at s (let z = r.sound in omega (arith, z))) (cap_read (sp.ways i) yi (sp.ways_at i (omega arith))) j (sp.ways_at j (omega arith));
     met_at = sp.met_at;
     all = λ e.
         let h : ℕ → ℕ = λ j. count_holding K e (den T j) in
@@ -207,9 +204,9 @@ module _ {n : ℕ} {T : List ℕ} {K : Set} {root : ℕ} {W H : List ℕ} {i x f
   }
 
   -- both branches, and the sets of the failed one hold the event, as often as ways lead here
-  pub spread_both : {B W' W'' H' : List ℕ} {y c p : ℕ} → K x ≡ false → Counted T K B i → y ≡ many_at W i
+  pub spread_both : {B W' W'' H' : List ℕ} {y c p : ℕ} → K x ≡ false → Counted T K B i → y ≡ capped (many_at W i)
       → Stored W s (capped (many_at W s + y)) W' → Stored W' f (capped (many_at W' f + y)) W''
-      → c ≡ many_at B f → p ≡ capped (y * c) → Stored H x (capped (many_at H x + p)) H' → Spreading T K root W'' H' i
+      → c ≡ capped (many_at B f) → p ≡ capped (y * c) → Stored H x (capped (many_at H x + p)) H' → Spreading T K root W'' H' i
   spread_both {B} {W'} {W''} {H'} {y} {c} {p} k counts yi t u cf pf v = record {
     ways = bump w₁ f (sp.ways i);
     met = bump sp.met x (sp.ways i * count_missing K (den T f));
@@ -220,13 +217,13 @@ module _ {n : ℕ} {T : List ℕ} {K : Set} {root : ℕ} {W H : List ℕ} {i x f
   }
     where
       here : y ≡ capped (sp.ways i)
-      here = yi ∙ sp.ways_at i (omega arith)
+      here = cap_read (sp.ways i) yi (sp.ways_at i (omega arith))
 
       at₁ : (j : ℕ) → j < i → many_at W' j ≡ capped (w₁ j)
       at₁ j h = added sp.ways (sp.ways i) t (sp.ways_at s (let z = r.sound in omega (arith, z))) here j (sp.ways_at j (omega arith))
 
       product : p ≡ capped (sp.ways i * count_missing K (den T f))
-      product = pf ∙ ap₂ (λ a b. capped (a * b)) here (cf ∙ counts.at f r.failed) ∙ cap_mul (sp.ways i) (count_missing K (den T f))
+      product = pf ∙ ap₂ (λ a b. capped (a * b)) here (cap_read (count_missing K (den T f)) cf (counts.at f r.failed)) ∙ cap_mul (sp.ways i) (count_missing K (den T f))
 
       one : (e : ℕ) → count_holding K e (den T root) ≡ bump sp.met x (sp.ways i * count_missing K (den T f)) e + weigh (bump w₁ f (sp.ways i)) (λ j. count_holding K e (den T j)) i
       one e = go (ℕ_discrete e x)
@@ -291,10 +288,10 @@ spread_start T K root m {W} {W'} {H} z t o y = record {
     go j (yes e) = ap (many_at W') e ∙ t.here ∙ o ∙ sym (ap capped (ap (bump (λ j. 0) root 1) e ∙ bump_same (λ j. 0) root 1) ∙ cap_1)
     go j (no d) = t.there j d ∙ ap (λ A. many_at A j) z ∙ zeros_at m j ∙ sym (ap capped (bump_other (λ j. 0) root 1 j d) ∙ cap_0)
 
-pub spread_down : {T : List ℕ} {K : Set} {root : ℕ} {W H : List ℕ} {i : ℕ} → Spreading T K root W H i → 2 ≤ i → Spreading T K root W H (i - 1 + 1)
+pub spread_down : {T : List ℕ} {K : Set} {root : ℕ} {W H : List ℕ} {i : ℕ} → Spreading T K root W H i → 2 < i → Spreading T K root W H (i - 1 + 1)
 spread_down {T} {K} {root} {W} {H} {i} sp h = let q : i ≡ i - 1 + 1 = omega arith in subst (Spreading T K root W H) q sp
 
-pub spread_end : {T : List ℕ} {K : Set} {root : ℕ} {W H : List ℕ} (i : ℕ) → Spreading T K root W H (i + 1) → i < 2 → Held T K root H
+pub spread_end : {T : List ℕ} {K : Set} {root : ℕ} {W H : List ℕ} (i : ℕ) → Spreading T K root W H i → i ≤ 2 → Held T K root H
 spread_end {T} {K} {root} {W} {H} i sp h = record { long = sp.long; at = λ e. sp.met_at e ∙ ap capped (sym (done e)) }
   where
     leaves : (e j : ℕ) → j < 2 → count_holding K e (den T j) ≡ 0
@@ -305,7 +302,7 @@ spread_end {T} {K} {root} {W} {H} i sp h = record { long = sp.long; at = λ e. s
     done : (e : ℕ) → count_holding K e (den T root) ≡ sp.met e
     done e =
         let a = sp.all e in
-        let b = weigh_none sp.ways (λ j. count_holding K e (den T j)) (i + 1) (λ j l. leaves e j (omega arith)) in
+        let b = weigh_none sp.ways (λ j. count_holding K e (den T j)) i (λ j l. leaves e j (omega arith)) in
         omega (arith, a, b)
 
 -- ---- what is told in the end

@@ -1,17 +1,16 @@
 -- The search for the first set that misses K: each node's mark from those of its branches, and the way down by the marks.
 -- Assumes nothing.
 use mathlib.Core.Path.{◌≡◌, refl, sym, ap, ap₂, ◌∙◌, subst, fun_ext}
-use mathlib.Core.Logic.{◌⊎◌, inl, inr}
-use mathlib.Core.Bool.{Bool, true, false, cond, not, ◌&&◌, ◌||◌, true≢false, false≢true}
+use mathlib.Core.Bool.{Bool, true, false, cond, not, ◌&&◌, ◌||◌, false≢true}
 use mathlib.Core.List.{List}
-use Prim.Native.Nat.{ℕ, zero, suc, ◌+◌, ◌-◌, ◌/◌, ◌%◌, ◌^◌, ◌≤◌, ◌<◌, max}
+use Prim.Native.Nat.{ℕ, zero, suc, ◌+◌, ◌/◌, ◌%◌, ◌^◌, ◌≤◌, ◌<◌}
 use native.Mathlib.Decide.{ℕ_discrete}
 use native.Mathlib.Omega.{arith}
 use lib.Dec.{eqb}
 use lib.ListN.{length, get_or, set, length-set}
 use lib.Seq.{get_or-set_same, get_or-set_other}
 use Rattle.paper.specs.Sets.{Set, none, put}
-use Rattle.paper.specs.Diagrams.{Diagram, leaf, node, Ordered}
+use Rattle.paper.specs.Diagrams.{node, Ordered}
 use Rattle.sets.specs.Words.{bit, set_of}
 use Rattle.tables.specs.Table.{event_of, failed_of, sound_of, den}
 use Rattle.tables.proofs.Den.{den_0, den_1, den_node}
@@ -19,7 +18,7 @@ use Rattle.tables.proofs.Lent.{lent_lower, lent_node, root_ordered}
 use Rattle.remaining.specs.Families.{CutDiagram}
 use Rattle.remaining.specs.Recursion.{some_missing, first_in}
 use Rattle.remaining.specs.Nodes.{Reads}
-use Rattle.remaining.specs.Marking.{mark, Marked, Marking, Leading, both, Following}
+use Rattle.remaining.specs.Marking.{mark, Marked, both, Following}
 
 -- ---- reading a node
 

@@ -1,6 +1,6 @@
 -- The counting: numbers that are exact up to the largest and otherwise only known to be above it, and what the two passes over the table store.
 -- Assumes nothing.
-use Rattle.std.specs.Prelude.{◌≡◌, ◌≢◌, List, ℕ, zero, suc, ◌+◌, ◌*◌, ◌≤◌, ◌<◌, min, length, get_or, replicate}
+use Rattle.std.specs.Prelude.{◌≡◌, ◌≢◌, List, ℕ, zero, suc, ◌+◌, ◌*◌, ◌≤◌, ◌<◌, min, length, get_or, replicate, Option, None, Some}
 use Rattle.paper.specs.Limits.{limits}
 use Rattle.paper.specs.Sets.{Set}
 use Rattle.paper.specs.Sizes.{largest}
@@ -19,6 +19,11 @@ capped x = min x above
 -- two words as a number: the second is 0, or 1 for a number that was cut off
 abbrev pub value : ℕ → ℕ → ℕ
 value low high = low + above * high
+
+-- a number that may be above the largest: then it is not there, and is cut off
+abbrev pub amount : Option ℕ → ℕ
+amount None = above
+amount (Some x) = x
 
 -- the number of i in an area of two words for each
 abbrev pub many_at : List ℕ → ℕ → ℕ

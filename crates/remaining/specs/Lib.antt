@@ -6,3 +6,4 @@ pub mod Marking
 pub mod Counting
 pub mod FirstCut
 pub mod Tallies
+pub mod Answers

@@ -6,24 +6,13 @@ ghost use Rattle.sets.specs.Words.{set_of};
 ghost use Rattle.tables.specs.Table.{den};
 ghost use Rattle.tables.specs.Lent.{Lent};
 ghost use Rattle.remaining.specs.Recursion.{count_missing};
-ghost use Rattle.remaining.specs.Counting.{capped, value, Counted, Counting, Spread, Spreads, Held, Ready, FirstOver, Written};
+ghost use Rattle.remaining.specs.Counting.{capped, amount, Counted, Counting, Spread, Spreads, Held, Ready, FirstOver, Written};
 
-use crate::many::{Many, add_many, exactly, many_at, plus, put_many, times};
+use crate::many::{add_many, many_at, plus, put_many, times};
 use crate::nodes::{holds, read_node};
 
 // Two words for each event.
 pub const TOTALS: usize = 2 * paper::EVENTS;
-
-// Zero throughout.
-pub fn clear(work: &mut [u64])
-    ensures { work.new ≡ replicate (length work.old) 0 }
-{
-    let mut i = 0;
-    while i < work.len() {
-        work[i] = 0;
-        i += 1;
-    }
-}
 
 // How many cuts below node `i` miss the set, where those below its branches are counted.
 fn count_of(
@@ -33,9 +22,9 @@ fn count_of(
     set: &[u64; sets::WORDS],
     below: &[u64],
     i: usize,
-) -> Many
+) -> Option<u64>
     requires { Counting n nodes.now count (set_of set.now) below.now i }
-    ensures { value result.low result.high ≡ capped (count_missing (set_of set.now) (den nodes.now i)) }
+    ensures { amount result ≡ capped (count_missing (set_of set.now) (den nodes.now i)) }
 {
     let d = read_node(nodes, n, count, i);
     let y = many_at(below, d.sound);
@@ -59,13 +48,11 @@ pub fn count_all(
     requires { Lent true n nodes.now count root × (2 * root + 1 < length below.old) × (4 ≤ length below.old) }
     ensures { Counted nodes.now (set_of set.now) below.new (root + 1) }
 {
-    put_many(below, 0, exactly(0));
-    put_many(below, 1, exactly(1));
-    let mut i = 2;
-    while i <= root {
+    put_many(below, 0, Some(0));
+    put_many(below, 1, Some(1));
+    for i in 2..root + 1 {
         let x = count_of(nodes, n, count, set, below, i);
         put_many(below, i, x);
-        i += 1;
     }
 }
 
@@ -108,12 +95,10 @@ pub fn spread_all(
     requires { Ready n nodes.now count root (set_of set.now) below.now ways.old totals.old }
     ensures { Held nodes.now (set_of set.now) root totals.new }
 {
-    clear(ways);
-    put_many(ways, root, exactly(1));
-    let mut i = root;
-    while 2 <= i {
+    ways.fill(0);
+    put_many(ways, root, Some(1));
+    for i in (2..root + 1).rev() {
         spread_node(nodes, n, count, set, below, ways, totals, i);
-        i -= 1;
     }
 }
 
@@ -122,12 +107,10 @@ pub fn first_over(totals: &[u64; TOTALS], n: usize) -> usize
     requires { n ≤ limits.events }
     ensures { FirstOver totals.now n result }
 {
-    let mut e = 0;
-    while e < n {
+    for e in 0..n {
         if totals[2 * e + 1] != 0 {
             return e;
         }
-        e += 1;
     }
     n
 }
@@ -137,9 +120,7 @@ pub fn write(totals: &[u64], n: usize, counts: &mut [u64])
     requires { (n ≤ limits.events) × (2 * limits.events ≤ length totals.now) × (n ≤ length counts.old) }
     ensures { Written n counts.old totals.now counts.new }
 {
-    let mut e = 0;
-    while e < n {
+    for e in 0..n {
         counts[e] = totals[2 * e];
-        e += 1;
     }
 }

@@ -54,11 +54,8 @@ pub fn mark_all(
 {
     some[0] = 0;
     some[1] = 1;
-    let mut i = 2;
-    while i <= root {
-        let m = mark_of(nodes, n, count, set, some, i);
-        some[i] = m;
-        i += 1;
+    for i in 2..root + 1 {
+        some[i] = mark_of(nodes, n, count, set, some, i);
     }
 }
 

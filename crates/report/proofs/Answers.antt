@@ -28,10 +28,8 @@ use Rattle.listing.specs.Calls.{Refusal, Listing}
 use Rattle.listing.proofs.Answers.{fitting_all, not_short}
 use Rattle.walk.specs.After.{to_list}
 use Rattle.review.specs.Hopes.{worth}
-use Rattle.listing.specs.declared.Listed.{Listed}
 use Rattle.report.specs.Answers.{to_report, NoneAfter, Enough, Refused, Untouched, Cleared, Answered}
-use Rattle.report.specs.Inner.{Begun, Fine, Judged, Names}
-use Rattle.report.specs.declared.Reported.{Reported}
+use Rattle.report.specs.Inner.{Begun, Fine, Judged}
 use Rattle.report.proofs.Family.{all_sorted, all_within, started}
 use Rattle.report.proofs.Left.{Left, left_of, some_left, none_left}
 
@@ -90,9 +88,9 @@ none_beyond base four lo h b = go (dec_lt b.event (room base))
 -- ---- refused
 
 module _ {r n : ℕ} {T : List ℕ} {c root : ℕ} {A : List ℕ} {begin : Bool} {ws base : List ℕ} (g : Begun begin ws base) (rm F W : List ℕ) {why edition number place count used : ℕ} {last : List ℕ} {finished : Bool} where
-  pub answer_refused : Judged r n T c root A F W base why → (why ≡ 0 → ⊥) → (edition ≡ 0) × Refusal why number place count used last finished
+  pub answer_refused : Judged r n T c root A F W base why → (edition ≡ 0) × Refusal why number place count used last finished
       → Answered r n T c root A begin ws rm rm F F W W edition number place count used last finished
-  answer_refused j z x = go j
+  answer_refused j x = go j
     where
       refuse : {m : ℕ} → why ≡ m → Refused m rm rm edition number place count used last finished
       refuse q = record { no_edition = x.0; is = x.1.is ∙ q; no_place = x.1.no_place; no_cut = x.1.no_cut; no_byte = x.1.no_byte; empty_set = x.1.empty_set; unfinished = x.1.unfinished; kept = refl }
@@ -106,15 +104,6 @@ module _ {r n : ℕ} {T : List ℕ} {c root : ℕ} {A : List ℕ} {begin : Bool}
       go (Judged.too_short k l h q) = Answered.too_short k l h (refuse q) same
       go (Judged.no_chance k l e h q) = Answered.no_chance k l e h (refuse q) same
       go (Judged.beyond k l e p b q) = let (f, b') = begun_after g b in Answered.beyond k l e p f b' (refuse q) same
-      go (Judged.fine f q) = absurd (z q)
-
-pub judged_fine : {r n : ℕ} {T : List ℕ} {c root : ℕ} {A F W base : List ℕ} {why : ℕ} → Judged r n T c root A F W base why → why ≡ 0 → Fine r n T c root A F W base
-judged_fine (Judged.no_edition k q) z = absurd (omega arith)
-judged_fine (Judged.no_diagram k h q) z = absurd (omega arith)
-judged_fine (Judged.too_short k l h q) z = absurd (omega arith)
-judged_fine (Judged.no_chance k l e h q) z = absurd (omega arith)
-judged_fine (Judged.beyond k l e p b q) z = absurd (omega arith)
-judged_fine (Judged.fine f q) z = f
 
 -- ---- not refused
 
@@ -162,8 +151,3 @@ pub answer_done : {r n : ℕ} {T : List ℕ} {c root : ℕ} {A F W : List ℕ} {
 answer_done {r} {n} {T} {root = root} {A} {begin = begin} {ws} {base} g f {rm} {rm'} {number = number} {place} {count} {used} {last} {finished} (l, z, e0, e1) =
     done_of f.known f.lent f.enough f.chances begin ws (begun_good g f.inside) (begun_set g)
     (subst (λ (x : List Set). Listing n (keep (worth r A n) x) (set_of base) rm rm' number place count used last finished) (begun_list g n (den T root)) l) z e0 e1
-
--- under an edition
-pub named_listing : {edition : ℕ} {l : Listed} {r : Reported} (n : ℕ) (sets : List Set) (S : Set) (rm rm' : List ℕ) → Names edition l r → Listing n sets S rm rm' l.number l.place l.count l.used l.last l.finished
-    → Listing n sets S rm rm' r.number r.place r.count r.used r.last r.finished
-named_listing n sets S rm rm' q x = subst (λ (l : Listed). Listing n sets S rm rm' l.number l.place l.count l.used l.last l.finished) (sym q.is) x

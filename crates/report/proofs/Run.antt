@@ -1,34 +1,40 @@
--- From a reportable cut to the next, as the room loop of a listing wants it.
+-- From a reportable cut to the next, as the loop of a listing wants it.
 -- Assumes nothing.
-use mathlib.Core.Path.{refl, sym, ap, ◌∙◌, subst}
+use mathlib.Core.Path.{◌≡◌, ap, ◌∙◌}
 use mathlib.Core.Bool.{Bool, cond}
 use mathlib.Core.List.{List, [], ◌∷◌}
-use Prim.Native.Nat.{ℕ}
-use lib.ListN.{take}
+use Prim.Native.Nat.{ℕ, ◌*◌, ◌≤◌}
+use lib.ListN.{length, get_or, take}
+use Rattle.std.proofs.Common.{Option, Some, None}
+use Rattle.std.specs.Prelude.{MatchOption}
 use Rattle.paper.specs.Lists.{keep}
 use Rattle.paper.specs.Sets.{Set}
-use Rattle.paper.specs.Cuts.{sets_of}
-use Rattle.tables.specs.Table.{den}
-use Rattle.walk.specs.Paths.{along, around, left_of, Spotted}
+use Rattle.sets.specs.Words.{words, set_of, room}
+use Rattle.sets.specs.Beside.{Between, Ahead, Line}
+use Rattle.walk.specs.declared.Step.{Step}
+use Rattle.walk.specs.Paths.{along, around, Carries, Ended}
+use Rattle.walk.specs.Follows.{Follows, Starts}
 use Rattle.walk.proofs.Paths.{around_one}
-use Rattle.listing.specs.Calls.{Listing}
-use Rattle.listing.proofs.Calls.{Next}
+use Rattle.listing.proofs.Beside.{ready_start, ready_next}
+use Rattle.listing.proofs.Standing.{Standing, stand_none, stand_some}
 use Rattle.review.specs.Hopes.{Landed}
 
-pub next_landed : {R : Set → Bool} {n : ℕ} {T : List ℕ} {c : ℕ} {P : List ℕ} {found : Bool} {d : ℕ} {l : List Set} → Landed R n T c P found d l
-    → Next T P found d (keep R (around T (take d P) [])) (keep R l)
-next_landed {R} {T = T} {P = P} {d = d} r = record {
-  none_left = λ e. r.is ∙ ap (λ f. keep R (left_of f T P d)) e;
-  first = λ e. r.is ∙ ap (λ f. keep R (left_of f T P d)) e ∙ ap (keep R) (around_one T (take d P) []) ∙ ap (λ b. cond b (along T (take d P) ∷ keep R (around T (take d P) [])) (keep R (around T (take d P) []))) (r.good e);
-}
+-- the first that passes is that of the path
+next_landed : {R : Set → Bool} {n : ℕ} {T : List ℕ} {c : ℕ} {P : List ℕ} {d : ℕ} {l : List Set} → Landed R n T c P d l
+    → keep R l ≡ along T (take d P) ∷ keep R (around T (take d P) [])
+next_landed {R} {T = T} {P = P} {d = d} r =
+    r.is ∙ ap (keep R) (around_one T (take d P) []) ∙ ap (λ b. cond b (along T (take d P) ∷ keep R (around T (take d P) [])) (keep R (around T (take d P) []))) r.good
 
--- a step that was reached, of what is left there itself
-pub landed_self : {R : Set → Bool} {n : ℕ} {T : List ℕ} {c : ℕ} {P : List ℕ} {found : Bool} {d : ℕ} {l : List Set} → Landed R n T c P found d l → Landed R n T c P found d (left_of found T P d)
-landed_self r = record { path = r.path; good = r.good; is = refl }
+-- at the start
+pub landed_start : (R : Set → Bool) (n : ℕ) (T : List ℕ) (c : ℕ) (P ws ahead line : List ℕ) (l : List Set) (o : Option Step)
+    → MatchOption o (Ended n T c P ws (keep R l)) (λ s. Landed R n T c P s.depth l × Carries T P s.depth ws × Starts n (set_of ws) s.kept s.low s.high)
+    → length ahead ≡ words → get_or ahead 0 0 ≡ 0 → 3 * (words * 64) ≤ length line → Standing (keep R) n T c P ws ahead line o (keep R l)
+landed_start R n T c P ws ahead line l None e q z m = stand_none e.none_left
+landed_start R n T c P ws ahead line l (Some s) h q z m = stand_some (record { path = h.0.path; carries = h.1; first = next_landed h.0; ready = ready_start h.0.path h.1 h.2 q z m })
 
--- what was written from there on is what was to write from the spot on
-pub landed_listing : {R : Set → Bool} {n : ℕ} {T : List ℕ} {c : ℕ} {P P' : List ℕ} {d at d' : ℕ} {found : Bool} {l : List Set} {S : Set} {room room' : List ℕ} {number place count used : ℕ} {last : List ℕ} {finished : Bool}
-    → Spotted n T c P d at l → Landed R n T c P' found d' (around T (take d P) (sets_of (den T at)))
-    → Listing n (keep R (left_of found T P' d')) S room room' number place count used last finished → Listing n (keep R l) S room room' number place count used last finished
-landed_listing {R} {n} {S = S} {room} {room'} {number} {place} {count} {used} {last} {finished} s r x =
-    subst (λ (y : List Set). Listing n y S room room' number place count used last finished) (sym (ap (keep R) s.is ∙ r.is)) x
+-- after a cut that was written
+pub landed_next : (R : Set → Bool) (n : ℕ) (T : List ℕ) (c : ℕ) (P ws ahead line : List ℕ) (l : List Set) (o : Option Step) {ws₀ : List ℕ} {low₀ high₀ : ℕ}
+    → MatchOption o (Ended n T c P ws (keep R l)) (λ s. Landed R n T c P s.depth l × Carries T P s.depth ws × Follows n (set_of ws₀) (set_of ws) s.kept s.low s.high)
+    → Between ws₀ low₀ high₀ → Ahead ws₀ high₀ ahead → Line ws₀ (room ws₀) line → length ws₀ ≡ words → Standing (keep R) n T c P ws ahead line o (keep R l)
+landed_next R n T c P ws ahead line l None e b a s m = stand_none e.none_left
+landed_next R n T c P ws ahead line l (Some s) h b a q m = stand_some (record { path = h.0.path; carries = h.1; first = next_landed h.0; ready = ready_next h.0.path h.1 b a q h.2 m })

@@ -6,9 +6,7 @@ use Rattle.paper.specs.Reports.{is_edition}
 use Rattle.sets.specs.Words.{words, set_of}
 use Rattle.tables.specs.Lent.{Lent}
 use Rattle.bracket.specs.Bracketed.{Chances}
-use Rattle.listing.specs.declared.Listed.{Listed}
 use Rattle.report.specs.Answers.{Enough}
-use Rattle.report.specs.declared.Reported.{Reported}
 
 -- the set that a call starts after: the empty one from the beginning
 pub record Begun (begin : Bool) (ws base : List ℕ) : Type 0 where
@@ -23,21 +21,10 @@ pub record Fine (r n : ℕ) (T : List ℕ) (c root : ℕ) (A F W base : List ℕ
   pub chances : Chances n A
   pub inside : Beyond n (set_of base) → ⊥
 
--- the number of the first rule that is broken, or 0
+-- the number of the first rule that is broken
 pub data Judged (r n : ℕ) (T : List ℕ) (c root : ℕ) (A F W base : List ℕ) (why : ℕ) : Type 0 where
   no_edition : is_edition r ≡ false → why ≡ 23 → Judged r n T c root A F W base why
   no_diagram : is_edition r ≡ true → (Lent true n T c root → ⊥) → why ≡ 12 → Judged r n T c root A F W base why
   too_short : is_edition r ≡ true → Lent true n T c root → (Enough n T A F W → ⊥) → why ≡ 9 → Judged r n T c root A F W base why
   no_chance : is_edition r ≡ true → Lent true n T c root → Enough n T A F W → (Chances n A → ⊥) → why ≡ 7 → Judged r n T c root A F W base why
   beyond : is_edition r ≡ true → Lent true n T c root → Enough n T A F W → Chances n A → Beyond n (set_of base) → why ≡ 13 → Judged r n T c root A F W base why
-  fine : Fine r n T c root A F W base → why ≡ 0 → Judged r n T c root A F W base why
-
--- the answer without its edition
-abbrev pub listed_of : Reported → Listed
-listed_of r = record { number = r.number; place = r.place; count = r.count; used = r.used; last = r.last; finished = r.finished }
-
--- what a listing call answers, under an edition, which a refusal does not name
-pub record Names (edition : ℕ) (l : Listed) (r : Reported) : Type 0 where
-  pub is : listed_of r ≡ l
-  pub told : r.number ≡ 0 → r.edition ≡ edition
-  pub untold : 0 < r.number → r.edition ≡ 0

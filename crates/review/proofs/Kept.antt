@@ -1,8 +1,8 @@
 -- What is left at the end of a path, of the sets that pass a test: a part of the diagram without one is passed over.
 -- Assumes nothing.
-use mathlib.Core.Path.{◌≡◌, refl, sym, ap, ap₂, ◌∙◌, subst}
+use mathlib.Core.Path.{◌≡◌, refl, sym, ap, ◌∙◌, subst}
 use mathlib.Core.Logic.{◌⊎◌, inl, inr}
-use mathlib.Core.Bool.{Bool, true, false, ◌||◌}
+use mathlib.Core.Bool.{Bool, true, ◌||◌}
 use mathlib.Core.List.{List, [], ◌∷◌, ◌++◌, map, append_assoc, append-nil, map-append as map-over}
 use Prim.Native.Nat.{ℕ, suc, ◌+◌, ◌-◌, ◌≤◌, ◌<◌}
 use native.Mathlib.Numerals.{add-one}
@@ -12,7 +12,6 @@ use lib.Seq.{take-suc-set, take-set-le}
 use Rattle.paper.specs.Lists.{In, keep}
 use Rattle.paper.specs.Sets.{Set, none, put, of_events}
 use Rattle.paper.specs.Cuts.{sets_of}
-use Rattle.paper.specs.Order.{rest}
 use Rattle.algebra.specs.Reports.{over}
 use Rattle.sets.specs.Words.{set_of}
 use Rattle.algebra.proofs.Base.{put_same, put_other}
@@ -20,12 +19,15 @@ use Rattle.algebra.proofs.Lists.{in_append, map_in, keep_append, keep_none, map_
 use Rattle.algebra.proofs.Sets.{not_true, set_ext}
 use Rattle.algebra.proofs.Reports.{over_put, over_none}
 use Rattle.tables.specs.Table.{event_of, failed_of, sound_of, den}
-use Rattle.walk.specs.Paths.{events_of, along, around, Open, Spotted, Carries}
-use Rattle.walk.proofs.Paths.{around_none, sets_0, sets_1, sets_node, rooted, open_none, open_leaf, open_push, open_pass, around_push, room_for, here}
-use Rattle.walk.specs.After.{to_list}
+use Rattle.walk.specs.Paths.{events_of, along, around, Open, Spotted, Carries, Ended}
+use Rattle.walk.proofs.Paths.{sets_0, sets_1, sets_node, rooted, open_leaf, open_push, open_pass, around_push, room_for, here}
 use Rattle.walk.proofs.Carry.{events_more}
-use Rattle.walk.proofs.Steps.{up_start, up_end, up_found, up_more}
+use Rattle.walk.proofs.Steps.{up_start, up_end, up_found, up_more, ended_as}
 use Rattle.review.specs.Hopes.{Hope, Promising, Landed}
+use Rattle.std.proofs.Common.{Option, Some, None}
+use Rattle.std.specs.Prelude.{MatchOption}
+use Rattle.walk.specs.declared.Spot.{Spot}
+use Rattle.walk.specs.Follows.{Parts, Shorter}
 
 -- ---- the sets from the path's end, and those behind
 
@@ -123,10 +125,10 @@ open_zero o = record {
 }
 
 module _ {R : Set → Bool} {n : ℕ} {T : List ℕ} {c : ℕ} {P : List ℕ} {d : ℕ} {l : List Set} (w : Rising R n T c P d l) where
-  pub rising_end : d ≡ 0 → Promising R n T c P 0 0 l
-  rising_end z =
-      let s = up_end (up_start w.path) z in
-      record { path = s.path; bare = λ _. refl; some = λ h. absurd (omega arith); is = w.is ∙ ap (keep R) s.is }
+  pub rising_end : d ≡ 0 → {ws : List ℕ} → Carries T P d ws → Ended n T c P ws (keep R l)
+  rising_end z k =
+      let e = up_end (up_start w.path) z k in
+      record { path = e.path; carries = e.carries; none_left = w.is ∙ ap (keep R) e.none_left }
 
   module _ (some : 0 < d) {i b : ℕ} (qi : i ≡ get_or P (d - 1) 0) (qb : b ≡ sound_of T i) where
     -- the entry on top taken away
@@ -148,8 +150,7 @@ module _ {R : Set → Bool} {n : ℕ} {T : List ℕ} {c : ℕ} {P : List ℕ} {d
     pub rising_found : Hope R T (along T (take (d - 1) P)) b → Promising R n T c P (d - 1) b l
     rising_found h = record {
       path = popped.0;
-      bare = λ z. absurd (no_set R T (along T (take (d - 1) P)) (subst (Hope R T (along T (take (d - 1) P))) z h));
-      some = λ _. h;
+      hope = h;
       is = w.is ∙ ap (keep R) popped.1;
     }
 
@@ -169,19 +170,19 @@ sinking_start o h = record { path = o; hope = h; is = refl }
 
 module _ {R : Set → Bool} {n : ℕ} {T : List ℕ} {c : ℕ} {P : List ℕ} {d at : ℕ} {l : List Set} (w : Sinking R n T c P d at l) where
   -- the leaf 1 is reached
-  pub sinking_end : at < 2 → Landed R n T c P true d l
+  pub sinking_end : at < 2 → Landed R n T c P d l
   sinking_end h = go at refl
     where
       Q : Set
       Q = along T (take d P)
 
-      go : (x : ℕ) → at ≡ x → Landed R n T c P true d l
+      go : (x : ℕ) → at ≡ x → Landed R n T c P d l
       go Prim.Native.Nat.zero e = absurd (no_set R T (along T (take d P)) (subst (Hope R T (along T (take d P))) e w.hope))
       go (suc x) e =
           let one : at ≡ 1 = omega arith in
           record {
             path = open_leaf w.path;
-            good = λ _. own_set R T (along T (take d P)) (subst (Hope R T (along T (take d P))) one w.hope);
+            good = own_set R T (along T (take d P)) (subst (Hope R T (along T (take d P))) one w.hope);
             is = w.is ∙ ap (λ k. keep R (around T (take d P) (sets_of (den T k)))) one ∙ ap (λ x. keep R (around T (take d P) x)) (sets_1 T);
           }
 
@@ -246,40 +247,33 @@ module _ {R : Set → Bool} {n : ℕ} {T : List ℕ} {c : ℕ} {P : List ℕ} {d
 -- the spot of a listing has hope, or what it leads to is passed over
 module _ {R : Set → Bool} {n : ℕ} {T : List ℕ} {c : ℕ} {P : List ℕ} {d at : ℕ} {l : List Set} (s : Spotted n T c P d at l) where
   pub settle_here : Hope R T (along T (take d P)) at → Promising R n T c P d at l
-  settle_here h = record { path = s.path; bare = s.bare; some = λ _. h; is = ap (keep R) s.is }
+  settle_here h = record { path = s.path; hope = h; is = ap (keep R) s.is }
 
-  pub settle_up : {d' at' : ℕ} → (Hope R T (along T (take d P)) at → ⊥) → Promising R n T c P d' at' (around T (take d P) []) → Promising R n T c P d' at' l
-  settle_up h p = record { path = p.path; bare = p.bare; some = p.some; is = ap (keep R) s.is ∙ passed_over R T (take d P) at h ∙ p.is }
+  pub settle_up : (Hope R T (along T (take d P)) at → ⊥) → keep R l ≡ keep R (around T (take d P) [])
+  settle_up h = ap (keep R) s.is ∙ passed_over R T (take d P) at h
+
+-- what a climb answers, of what passes the same
+pub climbed_kept : (R : Set → Bool) (n : ℕ) (T : List ℕ) (c : ℕ) (P ws : List ℕ) (l m : List Set) (S : Set) (o : Option Spot) → keep R l ≡ keep R m
+    → MatchOption o (Ended n T c P ws (keep R m)) (λ p. Promising R n T c P p.depth p.node m × Carries T P p.depth ws × Parts n T (set_of ws) p.node p.low × Shorter S (set_of ws) p.low)
+    → MatchOption o (Ended n T c P ws (keep R l)) (λ p. Promising R n T c P p.depth p.node l × Carries T P p.depth ws × Parts n T (set_of ws) p.node p.low)
+climbed_kept R n T c P ws l m S None e h = ended_as e h
+climbed_kept R n T c P ws l m S (Some p) e h = (record { path = h.0.path; hope = h.0.hope; is = e ∙ h.0.is }, h.1, h.2)
 
 module _ {R : Set → Bool} {n : ℕ} {T : List ℕ} {c : ℕ} {P : List ℕ} {d at : ℕ} {l : List Set} (s : Promising R n T c P d at l) where
-  -- node 0: nothing is left
-  pub landed_none : at ≡ 0 → Landed R n T c P false 0 l
-  landed_none z = record {
-    path = open_none s.path 1 (omega arith);
-    good = λ q. absurd (mathlib.Core.Bool.false≢true q);
-    is = s.is ∙ ap (keep R) (ap₂ (λ k a. around T (take k P) (sets_of (den T a))) (s.bare z) z ∙ around_none T (sets_of (den T 0)) ∙ sets_0 T);
-  }
-
-  pub landed_from : {P' : List ℕ} {found : Bool} {d' : ℕ} → Landed R n T c P' found d' (around T (take d P) (sets_of (den T at))) → Landed R n T c P' found d' l
+  pub landed_from : {P' : List ℕ} {d' : ℕ} → Landed R n T c P' d' (around T (take d P) (sets_of (den T at))) → Landed R n T c P' d' l
   landed_from r = record { path = r.path; good = r.good; is = s.is ∙ r.is }
+
+-- a cut of the same sets
+pub landed_as : {R : Set → Bool} {n : ℕ} {T : List ℕ} {c : ℕ} {P : List ℕ} {d : ℕ} {l m : List Set} → l ≡ m → Landed R n T c P d m → Landed R n T c P d l
+landed_as {R} e r = record { path = r.path; good = r.good; is = ap (keep R) e ∙ r.is }
+
+-- none is left, so none that passes
+pub ended_kept : (R : Set → Bool) {n : ℕ} {T : List ℕ} {c : ℕ} {P ws : List ℕ} {l : List Set} → Ended n T c P ws l → Ended n T c P ws (keep R l)
+ended_kept R w = record { path = w.path; carries = w.carries; none_left = ap (keep R) w.none_left }
 
 -- the same spot, of what it leads to itself
 pub spotted_self : {n : ℕ} {T : List ℕ} {c : ℕ} {P : List ℕ} {d at : ℕ} {l : List Set} → Spotted n T c P d at l → Spotted n T c P d at (around T (take d P) (sets_of (den T at)))
-spotted_self s = record { path = s.path; bare = s.bare; is = refl }
-
-pub promising_self : {R : Set → Bool} {n : ℕ} {T : List ℕ} {c : ℕ} {P : List ℕ} {d at : ℕ} {l : List Set} → Promising R n T c P d at l → Promising R n T c P d at (around T (take d P) (sets_of (den T at)))
-promising_self s = record { path = s.path; bare = s.bare; some = s.some; is = refl }
-
--- where a listing starts
-pub spot_all : {n : ℕ} {T : List ℕ} {c : ℕ} {P : List ℕ} {root : ℕ} (begin : Bool) (ws : List ℕ) → begin ≡ true → Open n T c P 0 root → Spotted n T c P 0 root (to_list n (den T root) begin ws)
-spot_all {n} {T} {root = root} begin ws e o = record {
-  path = o;
-  bare = λ _. refl;
-  is = ap (λ b. to_list n (den T root) b ws) e ∙ sym (around_none T (sets_of (den T root)));
-}
-
-pub spot_after : {n : ℕ} {T : List ℕ} {c : ℕ} {P : List ℕ} {d at : ℕ} (root : ℕ) (begin : Bool) (ws : List ℕ) → begin ≡ false → Spotted n T c P d at (rest n (set_of ws) (sets_of (den T root))) → Spotted n T c P d at (to_list n (den T root) begin ws)
-spot_after {n} {T} root begin ws e s = record { path = s.path; bare = s.bare; is = ap (λ b. to_list n (den T root) b ws) e ∙ s.is }
+spotted_self s = record { path = s.path; some = s.some; is = refl }
 
 -- an event above which there is none, past a node's failed branch
 pub sound_up : {n : ℕ} {T : List ℕ} {c : ℕ} {P : List ℕ} {d at high b : ℕ} → Open n T c P d at → 2 ≤ at → (2 ≤ at → high ≤ event_of T at) → b ≡ sound_of T at → 2 ≤ b → high ≤ event_of T b

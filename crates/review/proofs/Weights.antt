@@ -13,7 +13,7 @@ use lib.ListN.{length, get_or, set, length-set}
 use lib.Seq.{get_or-set_same, get_or-set_other}
 use borrow.Author.Tests.{le-leb, lt-leb}
 use Rattle.paper.specs.Limits.{billion}
-use Rattle.algebra.specs.Reports.{Way, fewest, with, likeliest}
+use Rattle.algebra.specs.Reports.{Way, fewest, likeliest}
 use Rattle.algebra.proofs.Products.{fewest_0, fewest_1, fewest_node, fewest_small, likeliest_0, likeliest_1, likeliest_node}
 use Rattle.digits.specs.Digits.{number, Number}
 use Rattle.tables.specs.Table.{den, event_of, failed_of, sound_of}

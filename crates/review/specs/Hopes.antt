@@ -1,6 +1,6 @@
 -- When a set below a node is worth reporting, and where a walk over such sets is.
 -- Assumes nothing.
-use Rattle.std.specs.Prelude.{◌≡◌, Bool, true, List, ℕ, zero, suc, ◌-◌, ◌<◌, take}
+use Rattle.std.specs.Prelude.{◌≡◌, Bool, true, List, ℕ, zero, suc, ◌-◌, take}
 use Rattle.paper.specs.Limits.{billion}
 use Rattle.paper.specs.Lists.{In, keep}
 use Rattle.paper.specs.Sets.{Set}
@@ -27,15 +27,14 @@ events_left n T zero = 0
 events_left n T (suc zero) = 0
 events_left n T (suc (suc k)) = n - event_of T (suc (suc k))
 
--- a node to go down from: what passes of l is what passes of the node's sets and of those left by the path; some does, unless it is node 0
+-- a node to go down from: what passes of l is what passes of the node's sets and of those left by the path; some of the node's does
 pub record Promising (R : Set → Bool) (n : ℕ) (T : List ℕ) (c : ℕ) (P : List ℕ) (d at : ℕ) (l : List Set) : Type 0 where
   pub path : Open n T c P d at
-  pub bare : at ≡ 0 → d ≡ 0
-  pub some : 0 < at → Hope R T (along T (take d P)) at
+  pub hope : Hope R T (along T (take d P)) at
   pub is : keep R l ≡ keep R (around T (take d P) (sets_of (den T at)))
 
--- the path of the first set of l that passes, or none
-pub record Landed (R : Set → Bool) (n : ℕ) (T : List ℕ) (c : ℕ) (P : List ℕ) (found : Bool) (d : ℕ) (l : List Set) : Type 0 where
+-- the path of the first set of l that passes
+pub record Landed (R : Set → Bool) (n : ℕ) (T : List ℕ) (c : ℕ) (P : List ℕ) (d : ℕ) (l : List Set) : Type 0 where
   pub path : Open n T c P d 1
-  pub good : found ≡ true → R (along T (take d P)) ≡ true
-  pub is : keep R l ≡ keep R (left_of found T P d)
+  pub good : R (along T (take d P)) ≡ true
+  pub is : keep R l ≡ keep R (left_of T P d)

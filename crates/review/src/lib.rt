@@ -1,11 +1,13 @@
 // The walk over the reportable cuts of a cut diagram: from one to the next, past every part of the diagram that has none.
 // Whether a part has one is told exactly, by whole numbers: each node is weighed once.
+// Beside the crate walk: there no branch is tested, and a test as a closure would take a contract longer than its walk.
 #![tactic(auto)]
 
 pub mod weighing; // the fewest members and the likeliest set of each node
 
-ghost use Rattle.std.specs.Prelude.{◌≡◌, [], true, false, ◌+◌, ◌*◌, ◌^◌, ◌≤◌, ◌<◌, length, take};
+ghost use Rattle.std.specs.Prelude.{◌≡◌, [], true, false, ◌+◌, ◌*◌, ◌^◌, ◌≤◌, ◌<◌, length, take, MatchOption};
 ghost use Rattle.paper.specs.Limits.{billion};
+ghost use Rattle.paper.specs.Lists.{keep};
 ghost use Rattle.paper.specs.Cuts.{sets_of};
 ghost use Rattle.algebra.proofs.Reports.{product_of};
 ghost use Rattle.digits.specs.Digits.{number, Number};
@@ -13,7 +15,7 @@ ghost use Rattle.sets.specs.Words.{words, set_of};
 ghost use Rattle.tables.specs.Flags.{Says};
 ghost use Rattle.tables.specs.Table.{den};
 ghost use Rattle.bracket.specs.Bracketed.{chance_in, Chances};
-ghost use Rattle.walk.specs.Paths.{events_of, along, around, Open, Carries, Spotted};
+ghost use Rattle.walk.specs.Paths.{events_of, along, around, Open, Carries, Spotted, Ended};
 ghost use Rattle.walk.specs.Follows.{Parts, Shorter, Longer, Follows, Starts};
 ghost use Rattle.walk.specs.After.{to_list};
 ghost use Rattle.review.specs.Weights.{Weighed};
@@ -35,12 +37,10 @@ fn product_on(
     requires { Open n nodes.now count path.now depth 1 × (n ≤ length chances.now) × Chances n chances.now × (number ds.old ≡ 1 * billion ^ 0) × Number ds.old 1 × (n + 1 < length ds.old) }
     ensures { (number ds.new ≡ product_of (chance_in chances.now) (events_of nodes.now (take depth path.now))) × Number ds.new (depth + 1) }
 {
-    let mut k = 0;
-    while k < depth {
+    for k in 0..depth {
         let i = tables::wide(path[k]);
         let e = tables::event_of(nodes, i);
-        digits::scale(ds, k + 1, bracket::wide(chances[e]));
-        k += 1;
+        digits::scale(ds, k + 1, u64::from(chances[e]));
     }
 }
 
@@ -86,9 +86,9 @@ fn descend(
     path: &mut [u32],
     set: &mut [u64; sets::WORDS],
     p: walk::Spot,
-) -> walk::Move
+) -> walk::Step
     requires { Open n nodes.now count path.old p.depth p.node × Hope (worth edition chances.now n) nodes.now (along nodes.now (take p.depth path.old)) p.node × Carries nodes.now path.old p.depth set.old × Parts n nodes.now (set_of set.old) p.node p.low × Weighed n chances.now nodes.now few.now picks.now count }
-    ensures { Landed (worth edition chances.now n) n nodes.now count path.new result.found result.depth (around nodes.now (take p.depth path.old) (sets_of (den nodes.now p.node))) × Carries nodes.now path.new result.depth set.new × Longer n (set_of set.old) (set_of set.new) p.low result.high }
+    ensures { Landed (worth edition chances.now n) n nodes.now count path.new result.depth (around nodes.now (take p.depth path.old) (sets_of (den nodes.now p.node))) × Carries nodes.now path.new result.depth set.new × Longer n (set_of set.old) (set_of set.new) p.low result.high × (result.kept ≡ p.depth) × (result.low ≡ p.low) }
 {
     let mut d = p.depth;
     let mut i = p.node;
@@ -106,14 +106,15 @@ fn descend(
             i = tables::sound_of(nodes, i);
         }
     }
-    walk::Move {
-        found: true,
+    walk::Step {
         depth: d,
+        kept: p.depth,
+        low: p.low,
         high,
     }
 }
 
-// The deepest sound branch of a node on the path below which some set is reportable, or node 0 where there is none.
+// The deepest sound branch of a node on the path below which some set is reportable.
 fn climb(
     nodes: &[u32],
     n: usize,
@@ -125,56 +126,24 @@ fn climb(
     path: &[u32],
     set: &mut [u64; sets::WORDS],
     depth: usize,
-) -> walk::Spot
+) -> Option<walk::Spot>
     requires { Open n nodes.now count path.now depth 1 × Carries nodes.now path.now depth set.old × Weighed n chances.now nodes.now few.now picks.now count }
-    ensures { Promising (worth edition chances.now n) n nodes.now count path.now result.depth result.node (around nodes.now (take depth path.now) []) × Carries nodes.now path.now result.depth set.new × Parts n nodes.now (set_of set.new) result.node result.low × Shorter (set_of set.old) (set_of set.new) result.node result.low }
+    ensures { MatchOption result (Ended n nodes.now count path.now set.new (keep (worth edition chances.now n) (around nodes.now (take depth path.now) []))) (λ p. Promising (worth edition chances.now n) n nodes.now count path.now p.depth p.node (around nodes.now (take depth path.now) []) × Carries nodes.now path.now p.depth set.new × Parts n nodes.now (set_of set.new) p.node p.low × Shorter (set_of set.old) (set_of set.new) p.low) }
 {
-    let mut d = depth;
-    while 0 < d {
-        d -= 1;
+    for d in (0..depth).rev() {
         let i = tables::wide(path[d]);
-        let e = tables::event_of(nodes, i);
-        sets::remove(set, e);
-        let b = tables::sound_of(nodes, i);
-        if hope(nodes, n, count, chances, few, picks, edition, path, d, b) {
-            return walk::Spot {
-                node: b,
+        let low = tables::event_of(nodes, i);
+        sets::remove(set, low);
+        let node = tables::sound_of(nodes, i);
+        if hope(nodes, n, count, chances, few, picks, edition, path, d, node) {
+            return Some(walk::Spot {
+                node,
                 depth: d,
-                low: e,
-            };
+                low,
+            });
         }
     }
-    walk::Spot {
-        node: 0,
-        depth: 0,
-        low: 0,
-    }
-}
-
-// The first reportable cut from the spot `p` down, if any. The path's events are below `p.low`.
-fn land(
-    nodes: &[u32],
-    n: usize,
-    count: usize,
-    chances: &[u32],
-    few: &[u32],
-    picks: &[u32],
-    edition: u32,
-    path: &mut [u32],
-    set: &mut [u64; sets::WORDS],
-    p: walk::Spot,
-) -> walk::Move
-    requires { Promising (worth edition chances.now n) n nodes.now count path.old p.depth p.node (around nodes.now (take p.depth path.old) (sets_of (den nodes.now p.node))) × Carries nodes.now path.old p.depth set.old × Parts n nodes.now (set_of set.old) p.node p.low × Weighed n chances.now nodes.now few.now picks.now count }
-    ensures { Landed (worth edition chances.now n) n nodes.now count path.new result.found result.depth (around nodes.now (take p.depth path.old) (sets_of (den nodes.now p.node))) × Carries nodes.now path.new result.depth set.new × Longer n (set_of set.old) (set_of set.new) p.low result.high × (result.found ≡ true → 0 < p.node) }
-{
-    if p.node == 0 {
-        return walk::Move {
-            found: false,
-            depth: 0,
-            high: p.low,
-        };
-    }
-    descend(nodes, n, count, chances, few, picks, edition, path, set, p)
+    None
 }
 
 // From the path of a cut, `d` nodes deep, to the path of the next reportable one.
@@ -189,19 +158,12 @@ pub fn advance(
     path: &mut [u32],
     set: &mut [u64; sets::WORDS],
     d: usize,
-) -> walk::Step
+) -> Option<walk::Step>
     requires { Open n nodes.now count path.old d 1 × Carries nodes.now path.old d set.old × Weighed n chances.now nodes.now few.now picks.now count }
-    ensures { Landed (worth edition chances.now n) n nodes.now count path.new result.found result.depth (around nodes.now (take d path.old) []) × Carries nodes.now path.new result.depth set.new × Follows n (set_of set.old) (set_of set.new) result.found result.kept result.low result.high }
+    ensures { MatchOption result (Ended n nodes.now count path.new set.new (keep (worth edition chances.now n) (around nodes.now (take d path.old) []))) (λ s. Landed (worth edition chances.now n) n nodes.now count path.new s.depth (around nodes.now (take d path.old) []) × Carries nodes.now path.new s.depth set.new × Follows n (set_of set.old) (set_of set.new) s.kept s.low s.high) }
 {
-    let p = climb(nodes, n, count, chances, few, picks, edition, path, set, d);
-    let m = land(nodes, n, count, chances, few, picks, edition, path, set, p);
-    walk::Step {
-        found: m.found,
-        depth: m.depth,
-        kept: p.depth,
-        low: p.low,
-        high: m.high,
-    }
+    let p = climb(nodes, n, count, chances, few, picks, edition, path, set, d)?;
+    Some(descend(nodes, n, count, chances, few, picks, edition, path, set, p))
 }
 
 // Where a listing starts, reportable or not: at the root, or at the first cut after the set `s`.
@@ -214,18 +176,21 @@ pub fn spot(
     s: &[u64],
     path: &mut [u32],
     set: &mut [u64; sets::WORDS],
-) -> walk::Spot
+) -> Option<walk::Spot>
     requires { (Open n nodes.now count path.old 0 root) × (length s.now ≡ words) × Carries nodes.now path.old 0 set.old }
-    ensures { Spotted n nodes.now count path.new result.depth result.node (to_list n (den nodes.now root) begin s.now) × Carries nodes.now path.new result.depth set.new × Parts n nodes.now (set_of set.new) result.node result.low }
+    ensures { MatchOption result (Ended n nodes.now count path.new set.new (to_list n (den nodes.now root) begin s.now)) (λ p. Spotted n nodes.now count path.new p.depth p.node (to_list n (den nodes.now root) begin s.now) × Carries nodes.now path.new p.depth set.new × Parts n nodes.now (set_of set.new) p.node p.low) }
 {
-    if begin {
-        return walk::Spot {
-            node: root,
-            depth: 0,
-            low: 0,
-        };
+    if !begin {
+        return walk::seek(nodes, n, count, root, s, path, set);
     }
-    walk::seek(nodes, n, count, root, s, path, set)
+    if root == 0 {
+        return None;
+    }
+    Some(walk::Spot {
+        node: root,
+        depth: 0,
+        low: 0,
+    })
 }
 
 // From a spot on, the first spot to go down from: that one, or one that the path leads to.
@@ -240,41 +205,42 @@ fn settle(
     path: &[u32],
     set: &mut [u64; sets::WORDS],
     p: walk::Spot,
-) -> walk::Spot
+) -> Option<walk::Spot>
     requires { Spotted n nodes.now count path.now p.depth p.node (around nodes.now (take p.depth path.now) (sets_of (den nodes.now p.node))) × Carries nodes.now path.now p.depth set.old × Parts n nodes.now (set_of set.old) p.node p.low × Weighed n chances.now nodes.now few.now picks.now count }
-    ensures { Promising (worth edition chances.now n) n nodes.now count path.now result.depth result.node (around nodes.now (take p.depth path.now) (sets_of (den nodes.now p.node))) × Carries nodes.now path.now result.depth set.new × Parts n nodes.now (set_of set.new) result.node result.low }
+    ensures { MatchOption result (Ended n nodes.now count path.now set.new (keep (worth edition chances.now n) (around nodes.now (take p.depth path.now) (sets_of (den nodes.now p.node))))) (λ q. Promising (worth edition chances.now n) n nodes.now count path.now q.depth q.node (around nodes.now (take p.depth path.now) (sets_of (den nodes.now p.node))) × Carries nodes.now path.now q.depth set.new × Parts n nodes.now (set_of set.new) q.node q.low) }
 {
     let d = p.depth;
     let at = p.node;
     if hope(nodes, n, count, chances, few, picks, edition, path, d, at) {
-        return p;
+        return Some(p);
     }
     climb(nodes, n, count, chances, few, picks, edition, path, set, d)
 }
 
-// The first reportable cut from the spot `p` of a listing's start on.
+// The first reportable cut: of all, or of those after the set `s`.
 pub fn start(
     nodes: &[u32],
     n: usize,
     count: usize,
+    root: usize,
+    begin: bool,
+    s: &[u64],
     chances: &[u32],
     few: &[u32],
     picks: &[u32],
     edition: u32,
     path: &mut [u32],
     set: &mut [u64; sets::WORDS],
-    p: walk::Spot,
-) -> walk::Step
-    requires { Spotted n nodes.now count path.old p.depth p.node (around nodes.now (take p.depth path.old) (sets_of (den nodes.now p.node))) × Carries nodes.now path.old p.depth set.old × Parts n nodes.now (set_of set.old) p.node p.low × Weighed n chances.now nodes.now few.now picks.now count }
-    ensures { Landed (worth edition chances.now n) n nodes.now count path.new result.found result.depth (around nodes.now (take p.depth path.old) (sets_of (den nodes.now p.node))) × Carries nodes.now path.new result.depth set.new × Starts n (set_of set.new) result.kept result.low result.high }
+) -> Option<walk::Step>
+    requires { Open n nodes.now count path.old 0 root × (length s.now ≡ words) × Carries nodes.now path.old 0 set.old × Weighed n chances.now nodes.now few.now picks.now count }
+    ensures { MatchOption result (Ended n nodes.now count path.new set.new (keep (worth edition chances.now n) (to_list n (den nodes.now root) begin s.now))) (λ m. Landed (worth edition chances.now n) n nodes.now count path.new m.depth (to_list n (den nodes.now root) begin s.now) × Carries nodes.now path.new m.depth set.new × Starts n (set_of set.new) m.kept m.low m.high) }
 {
-    let q = settle(nodes, n, count, chances, few, picks, edition, path, set, p);
-    let m = land(nodes, n, count, chances, few, picks, edition, path, set, q);
-    walk::Step {
-        found: m.found,
-        depth: m.depth,
+    let p = spot(nodes, n, count, root, begin, s, path, set)?;
+    let q = settle(nodes, n, count, chances, few, picks, edition, path, set, p)?;
+    let m = descend(nodes, n, count, chances, few, picks, edition, path, set, q);
+    Some(walk::Step {
         kept: 0,
         low: 0,
-        high: m.high,
-    }
+        ..m
+    })
 }

@@ -1,5 +1,5 @@
 // What is weighed of each node, from the lowest up: the fewest members of a set below it, and where its likeliest set is.
-ghost use Rattle.std.specs.Prelude.{◌≡◌, true, cond, min, ◌+◌, ◌-◌, ◌*◌, ◌^◌, ◌≤◌, ◌<◌, length};
+ghost use Rattle.std.specs.Prelude.{◌≡◌, true, ◌+◌, ◌-◌, ◌*◌, ◌^◌, ◌≤◌, ◌<◌, length};
 ghost use Rattle.paper.specs.Limits.{billion};
 ghost use Rattle.digits.specs.Digits.{number, Number};
 ghost use Rattle.tables.specs.Flags.{Says};
@@ -19,15 +19,6 @@ pub fn few_in(few: &[u32], i: usize) -> usize
         return 0;
     }
     tables::wide(few[i - 2])
-}
-
-fn lower(x: usize, y: usize) -> usize
-    ensures { result ≡ min x y }
-{
-    if x <= y {
-        return x;
-    }
-    y
 }
 
 // Multiplies the number in `ds`, which uses `used` digits, by the product of the likeliest set below node `at`, and says how many members that set has.
@@ -51,7 +42,7 @@ pub fn likeliest(
             i = tables::sound_of(nodes, i);
         } else {
             let e = tables::event_of(nodes, i);
-            digits::scale(ds, u, bracket::wide(chances[e]));
+            digits::scale(ds, u, u64::from(chances[e]));
             u += 1;
             i = tables::failed_of(nodes, i);
         }
@@ -78,22 +69,13 @@ fn likelier(
     ensures { Says result ((likeliest_at chances.now nodes.now s).chance * billion ^ (with_event chances.now e (likeliest_at chances.now nodes.now f)).members ≤ (with_event chances.now e (likeliest_at chances.now nodes.now f)).chance * billion ^ (likeliest_at chances.now nodes.now s).members) }
 {
     let mut xs = digits::place(1, 0);
-    digits::scale(&mut xs, 1, bracket::wide(chances[e]));
+    digits::scale(&mut xs, 1, u64::from(chances[e]));
     let x = likeliest(nodes, n, count, chances, picks, f, &mut xs, 2);
     let mut ys = digits::place(1, 0);
     let y = likeliest(nodes, n, count, chances, picks, s, &mut ys, 1);
     digits::lift(&mut xs, x + 3, y);
     digits::lift(&mut ys, y + 2, x + 1);
     digits::at_most(&ys, &xs, x + y + 3)
-}
-
-fn flag(b: bool) -> u32
-    ensures { result ≡ cond b 1 0 }
-{
-    if b {
-        return 1;
-    }
-    0
 }
 
 // Weighs node `i`, whose branches have lower numbers and are weighed.
@@ -115,8 +97,8 @@ fn weigh_node(
     let x = few_in(few, f) + 1;
     let y = few_in(few, s);
     let b = likelier(nodes, n, count, chances, picks, e, f, s);
-    few[i - 2] = lower(x, y) as u32;
-    picks[i - 2] = flag(b);
+    few[i - 2] = x.min(y) as u32;
+    picks[i - 2] = u32::from(b);
 }
 
 // One pass over the nodes, from the lowest up.
@@ -131,9 +113,7 @@ pub fn weigh(
     requires { Lent true n nodes.now count 1 × (n ≤ length chances.now) × Chances n chances.now × (count ≤ length few.old) × (count ≤ length picks.old) }
     ensures { Weighed n chances.now nodes.now few.new picks.new count }
 {
-    let mut i = 2;
-    while i < count + 2 {
+    for i in 2..count + 2 {
         weigh_node(nodes, n, count, chances, few, picks, i);
-        i += 1;
     }
 }

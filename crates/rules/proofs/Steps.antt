@@ -1,6 +1,6 @@
 -- What a step tells of the state that it was taken in, and of the record.
 -- Assumes nothing.
-use mathlib.Core.Path.{◌≡◌, refl, ap}
+use mathlib.Core.Path.{◌≡◌, refl}
 use mathlib.Core.Bool.{Bool, true, false}
 use mathlib.Core.List.{List}
 use Prim.Native.Nat.{ℕ, ◌+◌, ◌-◌, ◌≤◌, ◌<◌}
@@ -9,18 +9,16 @@ use lib.ListN.{length, drop, length-drop}
 use lib.Dec.{ltb, leb, eqb}
 use borrow.Author.Tests.{ltb-false, leb-false, eqb-false, ne_eqb}
 use Rattle.paper.specs.Limits.{limits, wide_from, billion}
-use Rattle.std.specs.Prelude.{if◌then◌else◌}
-use Rattle.rules.specs.Answers.{verdict}
+use Rattle.std.specs.Prelude.{if◌then◌else◌, Result, Ok, Err}
 use Rattle.rules.specs.Format.{event_in, event_length, record_of, width_of}
 use Rattle.paper.specs.Flat.{gates_from}
 use Rattle.rules.specs.Rules.{mixed, event_step, gate_step, event_input_step, gate_input_step, wide_input_step, end_step, admit_of, step_of, Fits}
-use Rattle.rules.specs.declared.Answer.{Answer}
-use Rattle.rules.specs.declared.Answer.TheVariants.{Done}
+use Rattle.rules.specs.declared.Refusal.{Refusal}
 use Rattle.rules.specs.declared.format.Record.{Record}
 use Rattle.rules.specs.declared.format.Record.TheVariants.{Missing, Unknown, Short, Event, SitedEvent, Gate, EventInput, GateInput, WideInput, End}
 use Rattle.rules.specs.declared.judge.State.{State}
 use Rattle.rules.specs.declared.judge.Step.{Step}
-use Rattle.rules.specs.declared.judge.Step.TheVariants.{AddEvent, AddGate, AddInput, Close, Refused}
+use Rattle.rules.specs.declared.judge.Step.TheVariants.{AddEvent, AddGate, AddInput, Close}
 use Rattle.rules.proofs.Cases.{if_elim, width_le, gate_small, event_width, event_small}
 
 -- the input that a record names
@@ -100,16 +98,12 @@ pub record OnClose (len : ℕ) (s : State) (r : Record) : Type 0 where
   pub short : len ≤ s.at + 1
   pub shape : r ≡ End
 
-abbrev pub Sound : ℕ → State → Record → Step → Type 0
-Sound len s r (AddEvent c site sited next) = OnEvent len s r c site sited next
-Sound len s r (AddGate kind k n next) = OnGate len s r kind k n next
-Sound len s r (AddInput i next) = OnInput len s r i next
-Sound len s r Close = OnClose len s r
-Sound len s r (Refused a) = a ≡ Done → ⊥
-
--- a refusal is not Done
-refusal : {a : Answer} → 1 ≤ (verdict a).number → a ≡ Done → ⊥
-refusal {a} h e = omega (arith, ap (λ (x : Answer). (verdict x).number) e)
+abbrev pub Sound : ℕ → State → Record → Result Step Refusal → Type 0
+Sound len s r (Ok (AddEvent c site sited next)) = OnEvent len s r c site sited next
+Sound len s r (Ok (AddGate kind k n next)) = OnGate len s r kind k n next
+Sound len s r (Ok (AddInput i next)) = OnInput len s r i next
+Sound len s r (Ok Close) = OnClose len s r
+Sound len s r (Err a) = Unit {0}
 
 -- events that are not mixed are of one form
 one_form : (a b : Bool) → (if a then (if b then false else true) else b) ≡ false → a ≡ b
@@ -125,11 +119,11 @@ module _ (len : ℕ) (s : State) where
   sound_event : (c site : ℕ) (sited : Bool) → (sited ≡ false → site ≡ 0) → s.at + event_length sited ≤ len
       → Sound len s (event_in sited c site) (event_step limits s (s.at + event_length sited) c site sited)
   sound_event c site sited plain h =
-      let P : Step → Type 0 = Sound len s (event_in sited c site) in
-      if_elim P (ltb 0 s.gates) (λ _. refusal (omega arith))
-      (λ e. if_elim P (mixed s sited) (λ _. refusal (omega arith))
-      (λ m. if_elim P (leb limits.events s.events) (λ _. refusal (omega arith))
-      (λ d. if_elim P (ltb billion c) (λ _. refusal (omega arith))
+      let P : Result Step Refusal → Type 0 = Sound len s (event_in sited c site) in
+      if_elim P (ltb 0 s.gates) (λ _. tt)
+      (λ e. if_elim P (mixed s sited) (λ _. tt)
+      (λ m. if_elim P (leb limits.events s.events) (λ _. tt)
+      (λ d. if_elim P (ltb billion c) (λ _. tt)
       (λ f. record {
         further = omega (arith, event_small sited);
         inside = h;
@@ -144,12 +138,12 @@ module _ (len : ℕ) (s : State) where
 
   sound_gate : (kind k n : ℕ) → s.at + width_of (Gate kind k n) ≤ len → Sound len s (Gate kind k n) (gate_step limits s (s.at + width_of (Gate kind k n)) kind k n)
   sound_gate kind k n h =
-      let P : Step → Type 0 = Sound len s (Gate kind k n) in
-      if_elim P (ltb 0 s.left) (λ _. refusal (omega arith))
-      (λ a. if_elim P (leb limits.gates s.gates) (λ _. refusal (omega arith))
-      (λ b. if_elim P (eqb n 0) (λ _. refusal (omega arith))
-      (λ z. if_elim P (ltb limits.inputs n) (λ _. refusal (omega arith))
-      (λ m. if_elim P (ltb limits.in_all (s.inputs + n)) (λ _. refusal (omega arith))
+      let P : Result Step Refusal → Type 0 = Sound len s (Gate kind k n) in
+      if_elim P (ltb 0 s.left) (λ _. tt)
+      (λ a. if_elim P (leb limits.gates s.gates) (λ _. tt)
+      (λ b. if_elim P (eqb n 0) (λ _. tt)
+      (λ z. if_elim P (ltb limits.inputs n) (λ _. tt)
+      (λ m. if_elim P (ltb limits.in_all (s.inputs + n)) (λ _. tt)
       (λ d. record {
         further = omega (arith, gate_small kind k n);
         inside = h;
@@ -164,9 +158,9 @@ module _ (len : ℕ) (s : State) where
 
   sound_event_input : (i : ℕ) → s.at + 2 ≤ len → Sound len s (EventInput i) (event_input_step s (s.at + 2) i)
   sound_event_input i h =
-      let P : Step → Type 0 = Sound len s (EventInput i) in
-      if_elim P (eqb s.left 0) (λ _. refusal (omega arith))
-      (λ e. if_elim P (leb s.events i) (λ _. refusal (omega arith))
+      let P : Result Step Refusal → Type 0 = Sound len s (EventInput i) in
+      if_elim P (eqb s.left 0) (λ _. tt)
+      (λ e. if_elim P (leb s.events i) (λ _. tt)
       (λ d. record {
         further = omega arith;
         inside = h;
@@ -179,9 +173,9 @@ module _ (len : ℕ) (s : State) where
 
   sound_gate_input : (g : ℕ) → s.at + 3 ≤ len → Sound len s (GateInput g) (gate_input_step s (s.at + 3) g)
   sound_gate_input g h =
-      let P : Step → Type 0 = Sound len s (GateInput g) in
-      if_elim P (eqb s.left 0) (λ _. refusal (omega arith))
-      (λ e. if_elim P (leb s.gates (g + 1)) (λ _. refusal (omega arith))
+      let P : Result Step Refusal → Type 0 = Sound len s (GateInput g) in
+      if_elim P (eqb s.left 0) (λ _. tt)
+      (λ e. if_elim P (leb s.gates (g + 1)) (λ _. tt)
       (λ d. record {
         further = omega arith;
         inside = h;
@@ -194,10 +188,10 @@ module _ (len : ℕ) (s : State) where
 
   sound_wide_input : (i : ℕ) → s.at + 3 ≤ len → Sound len s (WideInput i) (wide_input_step s (s.at + 3) i)
   sound_wide_input i h =
-      let P : Step → Type 0 = Sound len s (WideInput i) in
-      if_elim P (eqb s.left 0) (λ _. refusal (omega arith))
-      (λ e. if_elim P (ltb i wide_from) (λ _. refusal (omega arith))
-      (λ w. if_elim P (leb s.events i) (λ _. refusal (omega arith))
+      let P : Result Step Refusal → Type 0 = Sound len s (WideInput i) in
+      if_elim P (eqb s.left 0) (λ _. tt)
+      (λ e. if_elim P (ltb i wide_from) (λ _. tt)
+      (λ w. if_elim P (leb s.events i) (λ _. tt)
       (λ d. record {
         further = omega arith;
         inside = h;
@@ -210,11 +204,11 @@ module _ (len : ℕ) (s : State) where
 
   sound_end : Sound len s End (end_step len s (s.at + 1))
   sound_end =
-      let P : Step → Type 0 = Sound len s End in
-      if_elim P (ltb 0 s.left) (λ _. refusal (omega arith))
-      (λ a. if_elim P (ltb (s.at + 1) len) (λ _. refusal (omega arith))
-      (λ b. if_elim P (eqb s.events 0) (λ _. refusal (omega arith))
-      (λ d. if_elim P (eqb s.gates 0) (λ _. refusal (omega arith))
+      let P : Result Step Refusal → Type 0 = Sound len s End in
+      if_elim P (ltb 0 s.left) (λ _. tt)
+      (λ a. if_elim P (ltb (s.at + 1) len) (λ _. tt)
+      (λ b. if_elim P (eqb s.events 0) (λ _. tt)
+      (λ d. if_elim P (eqb s.gates 0) (λ _. tt)
       (λ e. record {
         some_event = omega (arith, eqb-false s.events 0 d);
         some_gate = omega (arith, eqb-false s.gates 0 e);
@@ -224,9 +218,9 @@ module _ (len : ℕ) (s : State) where
       }))))
 
   pub sound : (r : Record) → s.at + width_of r ≤ len → Sound len s r (admit_of limits len s r)
-  sound Missing h = refusal (omega arith)
-  sound Unknown h = refusal (omega arith)
-  sound Short h = refusal (omega arith)
+  sound Missing h = tt
+  sound Unknown h = tt
+  sound Short h = tt
   sound (Event c) h = sound_event c 0 false (λ _. refl) h
   sound (SitedEvent c site) h = sound_event c site true (λ e. let z : ◌≡◌ {A = ℕ} 0 1 = cc in absurd (omega arith)) h
   sound (Gate kind k n) h = sound_gate kind k n h

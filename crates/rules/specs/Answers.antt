@@ -1,18 +1,30 @@
--- The paper's number and place for each case of an answer.
+-- The paper's number and place of an answer.
+use Rattle.std.specs.Prelude.{Result, Ok, Err}
 use Rattle.paper.specs.Answers.{Verdict}
-use Rattle.rules.specs.declared.Answer.{Answer}
-use Rattle.rules.specs.declared.Answer.TheVariants.{Done, Cut, UnknownKind, OutOfPlace, Count, Threshold, Reference, Chance, Unused, Room, Narrow, Sited}
+use Rattle.paper.specs.Refusals.{number}
+use Rattle.paper.specs.declared.refusal.Refused.{Refused}
+use Rattle.rules.specs.declared.Refusal.{Refusal}
+use Rattle.rules.specs.declared.Refusal.TheVariants.{Cut, UnknownKind, OutOfPlace, Count, Threshold, Reference, Chance, Unused, Room, Narrow, Sited}
 
-abbrev pub verdict : Answer → Verdict
-verdict Done = record { number = 0; place = 0 }
-verdict (Cut p) = record { number = 1; place = p }
-verdict (UnknownKind p) = record { number = 2; place = p }
-verdict (OutOfPlace p) = record { number = 3; place = p }
-verdict (Count p) = record { number = 4; place = p }
-verdict (Threshold p) = record { number = 5; place = p }
-verdict (Reference p) = record { number = 6; place = p }
-verdict (Chance p) = record { number = 7; place = p }
-verdict (Unused p) = record { number = 8; place = p }
-verdict Room = record { number = 9; place = 0 }
-verdict (Narrow p) = record { number = 21; place = p }
-verdict (Sited p) = record { number = 22; place = p }
+-- for each refusal
+abbrev pub reason : Refusal → Verdict
+reason (Cut p) = record { number = 1; place = p }
+reason (UnknownKind p) = record { number = 2; place = p }
+reason (OutOfPlace p) = record { number = 3; place = p }
+reason (Count p) = record { number = 4; place = p }
+reason (Threshold p) = record { number = 5; place = p }
+reason (Reference p) = record { number = 6; place = p }
+reason (Chance p) = record { number = 7; place = p }
+reason (Unused p) = record { number = 8; place = p }
+reason Room = record { number = 9; place = 0 }
+reason (Narrow p) = record { number = 21; place = p }
+reason (Sited p) = record { number = 22; place = p }
+
+-- 0 where nothing is refused
+abbrev pub verdict : {T : Type 0} → Result T Refusal → Verdict
+verdict (Ok t) = record { number = 0; place = 0 }
+verdict (Err a) = reason a
+
+-- of a refusal as the calls above say it
+abbrev pub said : Refused → Verdict
+said r = record { number = number r.why; place = r.place }

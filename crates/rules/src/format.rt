@@ -1,5 +1,5 @@
 // The records of a tree: what stands at the front of some bytes.
-ghost use Rattle.std.specs.Prelude.{◌≡◌, ◌+◌, ◌*◌};
+ghost use Rattle.std.specs.Prelude.{◌≡◌};
 ghost use Rattle.paper.specs.Limits.{limits};
 ghost use Rattle.rules.specs.Format.{length_of, event_length, record_of, width_of};
 
@@ -46,10 +46,7 @@ pub fn length(kind: u8) -> usize
 pub fn event_length(sited: bool) -> usize
     ensures { result ≡ event_length sited }
 {
-    if sited {
-        return length(17);
-    }
-    length(1)
+    if sited { length(17) } else { length(1) }
 }
 
 // How many bytes a record takes.
@@ -59,33 +56,15 @@ pub fn width(r: Record) -> usize
     match r {
         Record::Event(_) => length(1),
         Record::SitedEvent(_, _) => length(17),
-        Record::Gate(kind, _, _) => {
-            if kind == 4 {
-                return length(4);
-            }
-            length(2)
-        }
+        Record::Gate(4, _, _) => length(4),
+        Record::Gate(_, _, _) => length(2),
         Record::EventInput(_) => length(5),
         Record::GateInput(_) => length(6),
         Record::WideInput(_) => length(8),
         Record::End => length(7),
-        Record::Missing => 0,
-        Record::Short => 0,
+        Record::Missing | Record::Short => 0,
         Record::Unknown => 1,
     }
-}
-
-// A number's bytes, the low one first.
-fn two(a: u8, b: u8) -> u16
-    ensures { result ≡ a + 256 * b }
-{
-    (a as u16) + 256 * (b as u16)
-}
-
-fn four(a: u8, b: u8, c: u8, d: u8) -> u32
-    ensures { result ≡ a + 256 * (b + 256 * (c + 256 * d)) }
-{
-    (a as u32) + 256 * ((b as u32) + 256 * ((c as u32) + 256 * (d as u32)))
 }
 
 // The record at the front of b.
@@ -104,14 +83,17 @@ pub fn decode(b: &[u8]) -> Record
         return Record::Short;
     }
     match kind {
-        1 => Record::Event(four(b[1], b[2], b[3], b[4])),
+        1 => Record::Event(u32::from_le_bytes([b[1], b[2], b[3], b[4]])),
         2 => Record::Gate(2, 0, b[1]),
         3 => Record::Gate(3, 0, b[1]),
         4 => Record::Gate(4, b[1], b[2]),
         5 => Record::EventInput(b[1]),
-        6 => Record::GateInput(two(b[1], b[2])),
-        8 => Record::WideInput(two(b[1], b[2])),
-        17 => Record::SitedEvent(four(b[1], b[2], b[3], b[4]), two(b[5], b[6])),
+        6 => Record::GateInput(u16::from_le_bytes([b[1], b[2]])),
+        8 => Record::WideInput(u16::from_le_bytes([b[1], b[2]])),
+        17 => Record::SitedEvent(
+            u32::from_le_bytes([b[1], b[2], b[3], b[4]]),
+            u16::from_le_bytes([b[5], b[6]]),
+        ),
         _ => Record::End,
     }
 }

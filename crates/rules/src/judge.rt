@@ -5,7 +5,7 @@ ghost use Rattle.rules.specs.Format.{width_of};
 ghost use Rattle.rules.specs.States.{begun, past_event, past_gate, past_input, Bounded};
 ghost use Rattle.rules.specs.Rules.{wrong_k, mixed, event_step, gate_step, event_input_step, gate_input_step, wide_input_step, end_step, admit_of, step_of};
 
-use crate::Answer;
+use crate::Refusal;
 use crate::format::{Record, decode, width};
 use paper::{BILLION, EVENTS, GATES, GATES_FROM, IN_ALL, INPUTS, WIDE_FROM};
 
@@ -21,7 +21,7 @@ pub struct State {
     pub left: usize,
 }
 
-// What a record adds to the tree, with the place of the next record; or why it is refused.
+// What a record adds to the tree, with the place of the next record.
 #[derive(Clone, Copy)]
 pub enum Step {
     // Its chance, its site, and whether it has one.
@@ -29,7 +29,6 @@ pub enum Step {
     AddGate(u8, u8, u8, usize),
     AddInput(u16, usize),
     Close,
-    Refused(Answer),
 }
 
 // Before the first record.
@@ -55,9 +54,7 @@ pub fn past_event(s: State, sited: bool, after: usize) -> State
         at: after,
         events: s.events + 1,
         sited,
-        gates: s.gates,
-        inputs: s.inputs,
-        left: s.left,
+        ..s
     }
 }
 
@@ -68,11 +65,9 @@ pub fn past_gate(s: State, n: u8, after: usize) -> State
 {
     State {
         at: after,
-        events: s.events,
-        sited: s.sited,
         gates: s.gates + 1,
-        inputs: s.inputs,
         left: n as usize,
+        ..s
     }
 }
 
@@ -83,11 +78,9 @@ pub fn past_input(s: State, after: usize) -> State
 {
     State {
         at: after,
-        events: s.events,
-        sited: s.sited,
-        gates: s.gates,
         inputs: s.inputs + 1,
         left: s.left - 1,
+        ..s
     }
 }
 
@@ -95,139 +88,124 @@ pub fn past_input(s: State, after: usize) -> State
 fn mixed(s: State, sited: bool) -> bool
     ensures { result ≡ mixed s sited }
 {
-    if s.events == 0 {
-        return false;
-    }
-    if s.sited {
-        if sited {
-            return false;
-        }
-        return true;
-    }
-    sited
+    s.events != 0 && s.sited != sited
 }
 
-fn admit_event(s: State, after: usize, c: u32, site: u16, sited: bool) -> Step
+fn admit_event(s: State, after: usize, c: u32, site: u16, sited: bool) -> Result<Step, Refusal>
     ensures { result ≡ event_step limits s after c site sited }
 {
     if 0 < s.gates {
-        return Step::Refused(Answer::OutOfPlace(s.at));
+        return Err(Refusal::OutOfPlace(s.at));
     }
     if mixed(s, sited) {
-        return Step::Refused(Answer::OutOfPlace(s.at));
+        return Err(Refusal::OutOfPlace(s.at));
     }
     if EVENTS <= s.events {
-        return Step::Refused(Answer::Count(s.at));
+        return Err(Refusal::Count(s.at));
     }
     if BILLION < c {
-        return Step::Refused(Answer::Chance(s.at));
+        return Err(Refusal::Chance(s.at));
     }
-    Step::AddEvent(c, site, sited, after)
+    Ok(Step::AddEvent(c, site, sited, after))
 }
 
-fn admit_gate(s: State, after: usize, kind: u8, k: u8, n: u8) -> Step
+fn admit_gate(s: State, after: usize, kind: u8, k: u8, n: u8) -> Result<Step, Refusal>
     requires { Bounded s }
     ensures { result ≡ gate_step limits s after kind k n }
 {
     if 0 < s.left {
-        return Step::Refused(Answer::OutOfPlace(s.at));
+        return Err(Refusal::OutOfPlace(s.at));
     }
     if GATES <= s.gates {
-        return Step::Refused(Answer::Count(s.at));
+        return Err(Refusal::Count(s.at));
     }
     if n == 0 {
-        return Step::Refused(Answer::Count(s.at));
+        return Err(Refusal::Count(s.at));
     }
     if INPUTS < (n as usize) {
-        return Step::Refused(Answer::Count(s.at));
+        return Err(Refusal::Count(s.at));
     }
     if IN_ALL < s.inputs + (n as usize) {
-        return Step::Refused(Answer::Count(s.at));
+        return Err(Refusal::Count(s.at));
     }
-    Step::AddGate(kind, k, n, after)
+    Ok(Step::AddGate(kind, k, n, after))
 }
 
 // Whether k is 0 or above n, in a gate that has a k.
 pub fn wrong_k(kind: u8, k: u8, n: usize) -> bool
     ensures { result ≡ wrong_k kind k n }
 {
-    if kind == 4 {
-        if k == 0 {
-            return true;
-        }
-        return n < (k as usize);
-    }
-    false
+    kind == 4 && (k == 0 || n < (k as usize))
 }
 
-fn admit_event_input(s: State, after: usize, e: u8) -> Step
+fn admit_event_input(s: State, after: usize, e: u8) -> Result<Step, Refusal>
     ensures { result ≡ event_input_step s after e }
 {
     if s.left == 0 {
-        return Step::Refused(Answer::OutOfPlace(s.at));
+        return Err(Refusal::OutOfPlace(s.at));
     }
     if s.events <= (e as usize) {
-        return Step::Refused(Answer::Reference(s.at));
+        return Err(Refusal::Reference(s.at));
     }
-    Step::AddInput(e as u16, after)
+    Ok(Step::AddInput(e as u16, after))
 }
 
-fn admit_gate_input(s: State, after: usize, g: u16) -> Step
+fn admit_gate_input(s: State, after: usize, g: u16) -> Result<Step, Refusal>
     requires { Bounded s }
     ensures { result ≡ gate_input_step s after g }
 {
     if s.left == 0 {
-        return Step::Refused(Answer::OutOfPlace(s.at));
+        return Err(Refusal::OutOfPlace(s.at));
     }
     if s.gates <= (g as usize) + 1 {
-        return Step::Refused(Answer::Reference(s.at));
+        return Err(Refusal::Reference(s.at));
     }
-    Step::AddInput(GATES_FROM + g, after)
+    Ok(Step::AddInput(GATES_FROM + g, after))
 }
 
-fn admit_wide_input(s: State, after: usize, e: u16) -> Step
+fn admit_wide_input(s: State, after: usize, e: u16) -> Result<Step, Refusal>
     ensures { result ≡ wide_input_step s after e }
 {
     if s.left == 0 {
-        return Step::Refused(Answer::OutOfPlace(s.at));
+        return Err(Refusal::OutOfPlace(s.at));
     }
     if e < WIDE_FROM {
-        return Step::Refused(Answer::Narrow(s.at));
+        return Err(Refusal::Narrow(s.at));
     }
     if s.events <= (e as usize) {
-        return Step::Refused(Answer::Reference(s.at));
+        return Err(Refusal::Reference(s.at));
     }
-    Step::AddInput(e, after)
+    Ok(Step::AddInput(e, after))
 }
 
-fn admit_end(s: State, after: usize, len: usize) -> Step
+fn admit_end(s: State, after: usize, len: usize) -> Result<Step, Refusal>
     ensures { result ≡ end_step len s after }
 {
     if 0 < s.left {
-        return Step::Refused(Answer::OutOfPlace(s.at));
+        return Err(Refusal::OutOfPlace(s.at));
     }
     if after < len {
-        return Step::Refused(Answer::OutOfPlace(after));
+        return Err(Refusal::OutOfPlace(after));
     }
     if s.events == 0 {
-        return Step::Refused(Answer::Count(s.at));
+        return Err(Refusal::Count(s.at));
     }
     if s.gates == 0 {
-        return Step::Refused(Answer::Count(s.at));
+        return Err(Refusal::Count(s.at));
     }
-    Step::Close
+    Ok(Step::Close)
 }
 
 // What the record r at s.at does, of len bytes.
-pub fn admit(s: State, len: usize, r: Record) -> Step
+pub fn admit(s: State, len: usize, r: Record) -> Result<Step, Refusal>
     requires { Bounded s × (s.at + width_of r ≤ len) }
     ensures { result ≡ admit_of limits len s r }
 {
     let after = s.at + width(r);
     match r {
-        Record::Missing => Step::Refused(Answer::Cut(len)),
-        Record::Unknown => Step::Refused(Answer::UnknownKind(s.at)),
-        Record::Short => Step::Refused(Answer::Cut(s.at)),
+        Record::Missing => Err(Refusal::Cut(len)),
+        Record::Unknown => Err(Refusal::UnknownKind(s.at)),
+        Record::Short => Err(Refusal::Cut(s.at)),
         Record::Event(c) => admit_event(s, after, c, 0, false),
         Record::SitedEvent(c, site) => admit_event(s, after, c, site, true),
         Record::Gate(kind, k, n) => admit_gate(s, after, kind, k, n),
@@ -239,11 +217,9 @@ pub fn admit(s: State, len: usize, r: Record) -> Step
 }
 
 // What the next record of the bytes does.
-pub fn next(bytes: &[u8], s: State) -> Step
+pub fn next(bytes: &[u8], s: State) -> Result<Step, Refusal>
     requires { Bounded s × (s.at ≤ length bytes.now) }
     ensures { result ≡ step_of limits bytes.now s }
 {
-    let at = s.at;
-    let r = decode(&bytes[at..]);
-    admit(s, bytes.len(), r)
+    admit(s, bytes.len(), decode(&bytes[s.at..]))
 }

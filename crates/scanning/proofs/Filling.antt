@@ -2,8 +2,9 @@
 -- Assumes nothing.
 use mathlib.Core.Path.{◌≡◌, refl, sym, ap, ◌∙◌, subst}
 use mathlib.Core.Bool.{Bool, true, false, cond, ◌||◌, false≢true}
+use Rattle.std.specs.Prelude.{Option, Some, None, IsSome}
 use mathlib.Core.List.{List, [], ◌∷◌, ◌++◌, append_assoc}
-use Prim.Native.Nat.{ℕ, zero, suc, ◌+◌, ◌-◌, ◌<◌, ◌≤◌}
+use Prim.Native.Nat.{ℕ, zero, suc, ◌+◌, ◌<◌, ◌≤◌}
 use native.Mathlib.Decide.{dec_lt}
 use native.Mathlib.Numerals.{add-one}
 use native.Mathlib.Omega.{arith}
@@ -15,8 +16,8 @@ use Rattle.paper.specs.Texts.{lines_of}
 use Rattle.paper.specs.Equations.{has, number_of, numbers, dict_in, name_in, rights_of, line_in, inputs_in}
 use Rattle.lines.specs.Reading.{name_at, Steps}
 use Rattle.lines.specs.declared.Kind.{Kind}
-use Rattle.lines.specs.declared.Kind.TheVariants.{Bad, Chance}
-use Rattle.names.specs.Interning.{Sought}
+use Rattle.lines.specs.declared.Kind.TheVariants.{Chance}
+use Rattle.names.specs.Interning.{Hit, Sought}
 use Rattle.scanning.specs.Scanning.{RowAt, Gathered}
 use Rattle.scanning.specs.Judged.{Site, Places, ReadsOf}
 use Rattle.scanning.specs.Filling.{up_to, Put, Flat}
@@ -75,18 +76,18 @@ module _ {text N H X : List ℕ} {c stop : ℕ} {sep : List ℕ} {i : ℕ} {I₀
         let w = length_numbers D (parts sep (drop i (take stop text))) in
         omega (arith, g.long)
 
-    module _ {f : ℕ} (q : Sought text N c (name_at text j) f) where
-      pub fill_some : 0 < f
-      fill_some = sought_some t q its_known
+    pub fill_some : (o : Option ℕ) → Sought text N c (name_at text j) o → IsSome o
+    fill_some o q = sought_some t (name_at text j) o q its_known
 
-      pub fill_turn : u < length I → FillingRow text D stop sep i I₀ used (set I u (f - 1)) (u + 1) j'
+    module _ {f : ℕ} (q : Hit text N c (name_at text j) f) where
+      pub fill_turn : u < length I → FillingRow text D stop sep i I₀ used (set I u f) (u + 1) j'
       fill_turn room = record {
         left = the_next.rest;
         state = the_next.state;
         known = and_second (has (name_at text j) D) (every (λ y. has y D) the_next.rest) (rw the_next.is at g.known);
         inside = simp length-set (omega arith);
-        long = length-set I u (f - 1) ∙ g.long;
-        flat = ap (λ m. m ++ numbers D the_next.rest) (ap (λ k. take k (set I u (f - 1))) (add-one u) ∙ take-suc-set I u (f - 1) room) ∙ append_assoc (take u I) ((f - 1) ∷ []) (numbers D the_next.rest) ∙ ap (λ v. take u I ++ (v ∷ numbers D the_next.rest)) (sought_number t q fill_some) ∙ ap (λ m. take u I ++ numbers D m) (sym the_next.is) ∙ g.flat;
+        long = length-set I u f ∙ g.long;
+        flat = ap (λ m. m ++ numbers D the_next.rest) (ap (λ k. take k (set I u f)) (add-one u) ∙ take-suc-set I u f room) ∙ append_assoc (take u I) (f ∷ []) (numbers D the_next.rest) ∙ ap (λ v. take u I ++ (v ∷ numbers D the_next.rest)) (sought_number t q) ∙ ap (λ m. take u I ++ numbers D m) (sym the_next.is) ∙ g.flat;
       }
 
   pub fill_end : stop ≤ j → Put (numbers D (parts sep (drop i (take stop text)))) I₀ used I u
@@ -106,11 +107,11 @@ module _ {text F : List ℕ} {n : ℕ} (s : Site text F n) where
     put_none : rights_of (line_in (name_in (lines_of text) n) (lines_of text)) ≡ [] → Put (inputs_in (lines_of text) n) I used I used
     put_none e = record { inside = omega arith; is = sym (ap (λ m. take used I ++ m) (inputs_are e) ∙ append_none (take used I)) }
 
-    module _ {kind : Kind} {stop : ℕ} (r : ReadsOf text F n kind stop) where
-      pub bad_put : kind ≡ Bad → Put (inputs_in (lines_of text) n) I used I used
+    module _ {kind : Option Kind} {stop : ℕ} (r : ReadsOf text F n kind stop) where
+      pub bad_put : kind ≡ None → Put (inputs_in (lines_of text) n) I used I used
       bad_put e = put_none (ap rights_of (rw e at r.reads))
 
-      pub chance_put : {v : ℕ} → kind ≡ Chance v → Put (inputs_in (lines_of text) n) I used I used
+      pub chance_put : {v : ℕ} → kind ≡ Some (Chance v) → Put (inputs_in (lines_of text) n) I used I used
       chance_put e = put_none (ap rights_of (rw e at r.reads).is)
 
   -- the equation over the names ys

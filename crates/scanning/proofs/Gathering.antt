@@ -1,6 +1,7 @@
 -- The names of a text's equations are interned: by rows, lines, and all.
 -- Assumes nothing.
 use mathlib.Core.Path.{◌≡◌, refl, sym, ap, ◌∙◌}
+use Rattle.std.specs.Prelude.{Option, Some, None}
 use mathlib.Core.List.{List, [], ◌∷◌, ◌++◌}
 use Prim.Native.Nat.{ℕ, ◌<◌, ◌≤◌}
 use native.Mathlib.Omega.{arith}
@@ -11,7 +12,7 @@ use Rattle.paper.specs.Equations.{with, names_of, names_in, collect, dict_in}
 use Rattle.paper.specs.Spots.{places_from, places_of, places_in, firsts, spots_in}
 use Rattle.lines.specs.Reading.{name_at, Steps, ReadsAt}
 use Rattle.lines.specs.declared.Kind.{Kind}
-use Rattle.lines.specs.declared.Kind.TheVariants.{Bad, Chance, Or, And, AtLeast}
+use Rattle.lines.specs.declared.Kind.TheVariants.{Chance, Or, And, AtLeast}
 use Rattle.names.specs.Interning.{dict_of, Interned, Interns, Zeros}
 use Rattle.scanning.specs.Scanning.{RowAt, Room, Gathers, GathersLine, Lists, Gathered}
 use Rattle.lines.proofs.Leads.{drop_at_end}
@@ -86,7 +87,7 @@ module _ {text N : List ℕ} {c at : ℕ} {N' H' X' : List ℕ} {n c' : ℕ} (a 
     low = b.low;
   }
 
-module _ {text : List ℕ} {at : ℕ} {kind : Kind} {stop next : ℕ} (r : ReadsAt text at kind stop next) where
+module _ {text : List ℕ} {at : ℕ} {kind : Option Kind} {stop next : ℕ} (r : ReadsAt text at kind stop next) where
   gathers_line : {N : List ℕ} {k : ℕ} {ws : List (List ℕ)} {ps N' H' X' : List ℕ} {k' : ℕ} → names_of r.line ≡ ws → places_of at stop r.line ≡ ps → Gathers text N k ws ps N' H' X' k' stop → GathersLine text at N k N' H' X' k' next
   gathers_line {N} {k} {ws} {ps} {N'} {H'} {X'} {k'} e p g = record {
     line = r.line;
@@ -107,19 +108,19 @@ module _ {text : List ℕ} {at : ℕ} {kind : Kind} {stop next : ℕ} (r : Reads
   line_none : {N H X : List ℕ} {k : ℕ} → names_of r.line ≡ [] → places_of at stop r.line ≡ [] → Interned text N H X k → Room text N k at → GathersLine text at N k N H X k next
   line_none {N} {H} {X} {k} e p t m = gathers_line e p (record { store = t; dict = refl; spots = sym (append_none (take k N)); long = refl; low = omega (arith, m.low, r.ends.from) })
 
-  pub bad_line : {N H X : List ℕ} {k : ℕ} → kind ≡ Bad → Interned text N H X k → Room text N k at → GathersLine text at N k N H X k next
+  pub bad_line : {N H X : List ℕ} {k : ℕ} → kind ≡ None → Interned text N H X k → Room text N k at → GathersLine text at N k N H X k next
   bad_line e t m = line_none (ap names_of (rw e at r.reads)) (ap (places_of at stop) (rw e at r.reads)) t m
 
-  pub chance_line_lem : {v : ℕ} {N H X : List ℕ} {k : ℕ} → kind ≡ Chance v → Interned text N H X k → Room text N k at → GathersLine text at N k N H X k next
+  pub chance_line_lem : {v : ℕ} {N H X : List ℕ} {k : ℕ} → kind ≡ Some (Chance v) → Interned text N H X k → Room text N k at → GathersLine text at N k N H X k next
   chance_line_lem e t m = line_none (ap names_of (rw e at r.reads).is) (ap (places_of at stop) (rw e at r.reads).is) t m
 
-  pub or_after : {i : ℕ} → kind ≡ Or i → at < i
+  pub or_after : {i : ℕ} → kind ≡ Some (Or i) → at < i
   or_after e = (rw e at r.reads).after
 
-  pub and_after : {i : ℕ} → kind ≡ And i → at < i
+  pub and_after : {i : ℕ} → kind ≡ Some (And i) → at < i
   and_after e = (rw e at r.reads).after
 
-  pub least_after : {m i : ℕ} → kind ≡ AtLeast m i → at < i
+  pub least_after : {m i : ℕ} → kind ≡ Some (AtLeast m i) → at < i
   least_after e = (rw e at r.reads).joined.after
 
   pub equation_line : {sep : List ℕ} {i : ℕ} {N : List ℕ} {k : ℕ} {N' H' X' : List ℕ} {k' : ℕ} → RowAt text stop sep i → Equates r.line (name_at text at) sep (parts sep (drop i (take stop text))) → Gathers text N k (name_at text at ∷ parts sep (drop i (take stop text))) (at ∷ places_from sep i (parts sep (drop i (take stop text)))) N' H' X' k' stop → GathersLine text at N k N' H' X' k' next

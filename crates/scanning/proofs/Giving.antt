@@ -3,8 +3,9 @@
 use mathlib.Core.Path.{◌≡◌, refl, sym, ap, ◌∙◌, subst}
 use mathlib.Core.Logic.{inl}
 use mathlib.Core.Bool.{Bool, true, false, cond, not, ◌||◌, true≢false, false≢true}
+use Rattle.std.specs.Prelude.{Option, Some, None}
 use mathlib.Core.List.{List, [], ◌∷◌, ◌++◌}
-use Prim.Native.Nat.{ℕ, zero, suc, ◌+◌, ◌-◌, ◌<◌, ◌≤◌}
+use Prim.Native.Nat.{ℕ, suc, ◌+◌, ◌<◌, ◌≤◌}
 use native.Mathlib.Decide.{ℕ_discrete}
 use native.Mathlib.Omega.{arith}
 use lib.ListN.{get_or, length, drop, set, length-set}
@@ -15,10 +16,10 @@ use Rattle.paper.specs.Texts.{Placed, says, lines_from, lines_of}
 use Rattle.paper.specs.Equations.{has, dict_in, name_in, given_of, defined_in, twice_in, positive, wrong, wrong_from, wrong_in, chance_in}
 use Rattle.lines.specs.Reading.{name_at, Capped, ReadsAt}
 use Rattle.lines.specs.declared.Kind.{Kind}
-use Rattle.lines.specs.declared.Kind.TheVariants.{Bad, Chance, Or, And, AtLeast}
-use Rattle.names.specs.Interning.{Zeros, Sought}
+use Rattle.lines.specs.declared.Kind.TheVariants.{Chance, Or, And, AtLeast}
+use Rattle.names.specs.Interning.{Zeros, Hit, Missed}
 use Rattle.scanning.specs.Scanning.{Gathered}
-use Rattle.scanning.specs.Judged.{is_equation, IsEquation, Defined, Places, Giving, Refused, unknown, left, again, Kept, Tells, Passes, Right, Names}
+use Rattle.scanning.specs.Judged.{is_equation, place_code, IsEquation, Defined, Places, Giving, Refused, unknown, left, again, Kept, Right, Names}
 use Rattle.lines.proofs.Leads.{drop_at_end}
 use Rattle.names.proofs.Dicts.{same_self}
 use Rattle.scanning.proofs.Known.{sought_none, sought_name, sought_has, sought_only}
@@ -28,48 +29,44 @@ use Rattle.scanning.proofs.Gathering.{lines_end}
 
 -- ---- one chance
 
-module _ {text N H X : List ℕ} {c : ℕ} {F w : List ℕ} {f : ℕ} (g : Gathered text N H X c) (l : Places text c F) (s : Sought text N c w f) where
-  pub tells_unknown : {M : List ℕ} → f ≡ 0 → Refused text c M w
-  tells_unknown e = unknown (sought_none g s e)
+pub tells_unknown : {text N H X : List ℕ} {c : ℕ} {w M : List ℕ} → Gathered text N H X c → Missed text N c w → Refused text c M w
+tells_unknown g s = unknown (sought_none g s)
 
-  module _ (some : f ≡ 0 → ⊥) {p : ℕ} (ep : p ≡ f) where
-    found : 0 < f
-    found = omega arith
+module _ {text N H X : List ℕ} {c : ℕ} {F w : List ℕ} {f : ℕ} (g : Gathered text N H X c) (l : Places text c F) (s : Hit text N c w f) {p : ℕ} (ep : p ≡ f) where
+  pub found_room : p < c
+  found_room = omega (arith, s.below)
 
-    pub found_room : p - 1 < c
-    found_room = let y = found in omega (arith, s.to)
+  found_name : name_in (lines_of text) p ≡ w
+  found_name = ap (name_in (lines_of text)) ep ∙ sought_name g s
 
-    found_name : name_in (lines_of text) (p - 1) ≡ w
-    found_name = ap (λ k. name_in (lines_of text) (k - 1)) ep ∙ sought_name g s found
+  its_place : get_or F p 0 ≡ defined_in w (lines_of text)
+  its_place = (l.site p found_room).each ∙ ap (λ x. defined_in x (lines_of text)) found_name
 
-    its_place : get_or F (p - 1) 0 ≡ defined_in w (lines_of text)
-    its_place = (l.site (p - 1) found_room).each ∙ ap (λ x. defined_in x (lines_of text)) found_name
+  pub found_place : p < length F
+  found_place = (l.site p found_room).room
 
-    pub found_place : p - 1 < length F
-    found_place = (l.site (p - 1) found_room).room
+  pub tells_left : {M : List ℕ} → 0 < get_or F p 0 → Refused text c M w
+  tells_left h = left (ap positive (sym its_place) ∙ is_positive (get_or F p 0) h)
 
-    pub tells_left : {M : List ℕ} → 0 < get_or F (p - 1) 0 → Refused text c M w
-    tells_left h = left (ap positive (sym its_place) ∙ is_positive (get_or F (p - 1) 0) h)
+  pub tells_again : {M : List ℕ} → 0 < get_or M p 0 → Refused text c M w
+  tells_again {M} h = again p found_room found_name (is_positive (get_or M p 0) h)
 
-    pub tells_again : {M : List ℕ} → 0 < get_or M (p - 1) 0 → Refused text c M w
-    tells_again {M} h = again (p - 1) found_room found_name (is_positive (get_or M (p - 1) 0) h)
-
-    pub tells_kept : {M G : List ℕ} {v : ℕ} → get_or F (p - 1) 0 ≤ 0 → get_or M (p - 1) 0 ≤ 0 → Kept text c M G w v (set M (p - 1) 1) (set G (p - 1) v)
-    tells_kept {M} {G} h k = record {
-      known = sought_has g s found;
-      event = ap positive (sym its_place) ∙ not_positive (get_or F (p - 1) 0) h;
-      number = p - 1;
-      within = found_room;
-      name = found_name;
-      only = λ j m e. sought_only g s found j m e ∙ ap (λ i. i - 1) (sym ep);
-      fresh = not_positive (get_or M (p - 1) 0) k;
-      marks = refl;
-      chances = refl;
-    }
+  pub tells_kept : {M G : List ℕ} {v : ℕ} → get_or F p 0 ≤ 0 → get_or M p 0 ≤ 0 → Kept text c M G w v (set M p 1) (set G p v)
+  tells_kept {M} {G} h k = record {
+    known = sought_has g s;
+    event = ap positive (sym its_place) ∙ not_positive (get_or F p 0) h;
+    number = p;
+    within = found_room;
+    name = found_name;
+    only = λ j m e. sought_only g s j m e ∙ sym ep;
+    fresh = not_positive (get_or M p 0) k;
+    marks = refl;
+    chances = refl;
+  }
 
 -- ---- lines
 
-module _ {text : List ℕ} {c : ℕ} {M G : List ℕ} {at : ℕ} {kind : Kind} {stop next : ℕ} (d : Giving text c M G at) (r : ReadsAt text at kind stop next) where
+module _ {text : List ℕ} {c : ℕ} {M G : List ℕ} {at : ℕ} {kind : Option Kind} {stop next : ℕ} (d : Giving text c M G at) (r : ReadsAt text at kind stop next) where
   abbrev behind_it : List Placed
   behind_it = lines_from next (drop next text)
 
@@ -82,8 +79,8 @@ module _ {text : List ℕ} {c : ℕ} {M G : List ℕ} {at : ℕ} {kind : Kind} {
   wrong_here : wrong all d.given r.line ≡ true → wrong_in all ≡ suc at
   wrong_here h = sym d.right ∙ told ∙ ap (λ u. cond u (suc at) (wrong_from all (given_of r.line ++ d.given) behind_it)) h
 
-  pub bad_wrong : kind ≡ Bad → (at < next) × Passes text c M G at next true
-  bad_wrong e = (r.after, record { refused = λ _. wrong_here (ap (wrong all d.given) (rw e at r.reads)); on = λ p. absurd (true≢false p) })
+  pub bad_wrong : kind ≡ None → wrong_in all ≡ suc at
+  bad_wrong e = wrong_here (ap (wrong all d.given) (rw e at r.reads))
 
   equation_chance : (w : List ℕ) (l : Line) (x : List ℕ) → IsEquation l x → chance_in w (says at l ∷ behind_it) ≡ chance_in w behind_it
   equation_chance w l x e = ap (λ k. chance_in w (says at k ∷ behind_it)) e.is
@@ -103,19 +100,17 @@ module _ {text : List ℕ} {c : ℕ} {M G : List ℕ} {at : ℕ} {kind : Kind} {
         still = λ n l m. sym (ap (chance_in (name_in (lines_of text) n)) r.says ∙ equation_chance (name_in (lines_of text) n) r.line (name_at text at) e) ∙ d.still n l m;
       }
 
-  equation_right : is_equation kind ≡ true → (at < next) × Passes text c M G at next false
-  equation_right h = (r.after, record { refused = λ p. absurd (false≢true p); on = λ _. equation_on h })
+  -- what is no chance is an equation
+  pub equation_right : {k : Kind} → kind ≡ Some k → ((v : ℕ) → k ≡ Chance v → ⊥) → (at < next) × Giving text c M G next
+  equation_right {k} e n = (r.after, equation_on (ap is_equation e ∙ go k n))
+    where
+      go : (k : Kind) → ((v : ℕ) → k ≡ Chance v → ⊥) → is_equation (Some k) ≡ true
+      go (Chance v) n = absurd (n v refl)
+      go (Or i) n = refl
+      go (And i) n = refl
+      go (AtLeast m i) n = refl
 
-  pub or_right : {i : ℕ} → kind ≡ Or i → (at < next) × Passes text c M G at next false
-  or_right e = equation_right (ap is_equation e)
-
-  pub and_right : {i : ℕ} → kind ≡ And i → (at < next) × Passes text c M G at next false
-  and_right e = equation_right (ap is_equation e)
-
-  pub least_right : {k i : ℕ} → kind ≡ AtLeast k i → (at < next) × Passes text c M G at next false
-  least_right e = equation_right (ap is_equation e)
-
-  module _ {v : ℕ} (k : kind ≡ Chance v) where
+  module _ {v : ℕ} (k : kind ≡ Some (Chance v)) where
     pub chance_room : at + 2 ≤ length text
     chance_room =
         let w = (rw k at r.reads).inside in
@@ -213,9 +208,11 @@ module _ {text : List ℕ} {c : ℕ} {M G : List ℕ} {at : ℕ} {kind : Kind} {
         still = λ n l. still' n l (ℕ_discrete n m);
       }
 
-    pub chance_told : {M' G' : List ℕ} {b : Bool} → Tells text c M G (name_at text (at + 2)) v M' G' b → (at < next) × Passes text c M' G' at next b
-    chance_told {b = true} t = (r.after, record { refused = λ _. wrong_here (refused t); on = λ p. absurd (true≢false p) })
-    chance_told {b = false} t = (r.after, record { refused = λ p. absurd (false≢true p); on = λ _. kept_on t })
+    pub chance_wrong : Refused text c M (name_at text (at + 2)) → wrong_in all ≡ suc at
+    chance_wrong t = wrong_here (refused t)
+
+    pub chance_right : {M' G' : List ℕ} → Kept text c M G (name_at text (at + 2)) v M' G' → (at < next) × Giving text c M' G' next
+    chance_right t = (r.after, kept_on t)
 
 -- ---- the text
 
@@ -250,9 +247,9 @@ giving_end {text} {c} {M} {G} {at} d h =
 
 -- ---- the scan
 
-module _ {text N H X : List ℕ} {c : ℕ} {F G : List ℕ} {t : ℕ} (g : Gathered text N H X c) (d : Defined text c F t) (r : Right text c G) where
-  pub scan_twice : 0 < t → (wrong_in (lines_of text) ≡ 0) × (twice_in (lines_of text) ≡ suc (t - 1))
-  scan_twice h = (r.none, sym d.twice ∙ omega arith)
+module _ {text N H X : List ℕ} {c : ℕ} {F G : List ℕ} {o : Option ℕ} (g : Gathered text N H X c) (d : Defined text c F (place_code o)) (r : Right text c G) where
+  pub scan_twice : {at : ℕ} → o ≡ Some at → (wrong_in (lines_of text) ≡ 0) × (twice_in (lines_of text) ≡ suc at)
+  scan_twice e = (r.none, sym d.twice ∙ ap place_code e)
 
-  pub scan_done : t ≤ 0 → Names text N H X c F G
-  scan_done h = record { lines = record { right = r.none; once = sym d.twice ∙ omega arith }; gathered = g; places = d.places; chances = r.each }
+  pub scan_done : o ≡ None → Names text N H X c F G
+  scan_done e = record { lines = record { right = r.none; once = sym d.twice ∙ ap place_code e }; gathered = g; places = d.places; chances = r.each }

@@ -2,9 +2,9 @@
 -- Assumes nothing.
 use mathlib.Core.Path.{◌≡◌, refl, sym, ap, ◌∙◌}
 use mathlib.Core.Bool.{Bool, true, false, cond, ◌||◌, true≢false, false≢true}
+use Rattle.std.specs.Prelude.{Option, Some, None, IsSome}
 use mathlib.Core.List.{List, [], ◌∷◌, ◌++◌}
-use Prim.Native.Nat.{ℕ, ◌-◌, ◌<◌}
-use native.Mathlib.Decide.{dec_lt}
+use Prim.Native.Nat.{ℕ, ◌<◌}
 use native.Mathlib.Omega.{arith}
 use lib.ListN.{get_or, length}
 use Rattle.paper.specs.Lists.{every}
@@ -12,7 +12,7 @@ use Rattle.paper.specs.Bytes.{same}
 use Rattle.paper.specs.Texts.{lines_of}
 use Rattle.paper.specs.Equations.{has, with, number_of, collect, dict_in, name_in}
 use Rattle.lines.specs.Reading.{name_at}
-use Rattle.names.specs.Interning.{Sought}
+use Rattle.names.specs.Interning.{Hit, Missed, Sought}
 use Rattle.scanning.specs.Scanning.{Gathered}
 use Rattle.lines.proofs.Tests.{and_first, and_second}
 use Rattle.names.proofs.Dicts.{same_self, has_not, has_at, dict_long, dict_at}
@@ -78,35 +78,26 @@ module _ {text N H X : List ℕ} {c : ℕ} (g : Gathered text N H X c) where
   pub name_in_lem : (n : ℕ) → n < c → name_at text (get_or N n 0) ≡ name_in (lines_of text) n
   name_in_lem n h = sym (dict_at text N c g.store.room n h) ∙ ap (λ D. get_or D n []) g.dict
 
-  module _ {w : List ℕ} {r : ℕ} (s : Sought text N c w r) where
-    -- a name of the text is found
-    pub sought_some : has w (dict_in (lines_of text)) ≡ true → 0 < r
-    sought_some h = go (dec_lt 0 r)
-      where
-        go : Dec (0 < r) → 0 < r
-        go (yes p) = p
-        go (no p) =
-            let long = count_in in
-            absurd (true≢false (sym h ∙ has_not w (dict_in (lines_of text)) (λ k l x. s.miss (omega arith) k (omega arith) (name_in_lem k (omega arith) ∙ x))))
+  -- a name of the text is found
+  pub sought_none : {w : List ℕ} → Missed text N c w → has w (dict_in (lines_of text)) ≡ false
+  sought_none {w} s =
+      let long = count_in in
+      has_not w (dict_in (lines_of text)) (λ k l x. s.none k (omega arith) (name_in_lem k (omega arith) ∙ x))
 
-    pub sought_none : r ≡ 0 → has w (dict_in (lines_of text)) ≡ false
-    sought_none e =
-        let long = count_in in
-        has_not w (dict_in (lines_of text)) (λ k l x. s.miss (omega arith) k (omega arith) (name_in_lem k (omega arith) ∙ x))
+  pub sought_some : (w : List ℕ) (o : Option ℕ) → Sought text N c w o → has w (dict_in (lines_of text)) ≡ true → IsSome o
+  sought_some w (Some r) s h = refl
+  sought_some w None s h = absurd (true≢false (sym h ∙ sought_none s))
 
-    module _ (p : 0 < r) where
-      sought_below : r - 1 < c
-      sought_below = omega (arith, s.to)
+  module _ {w : List ℕ} {r : ℕ} (s : Hit text N c w r) where
+    pub sought_name : name_in (lines_of text) r ≡ w
+    sought_name = sym (name_in_lem r s.below) ∙ s.name
 
-      pub sought_name : name_in (lines_of text) (r - 1) ≡ w
-      sought_name = sym (name_in_lem (r - 1) sought_below) ∙ s.hit p
+    pub sought_has : has w (dict_in (lines_of text)) ≡ true
+    sought_has = let long = count_in in has_at w (dict_in (lines_of text)) r (omega (arith, s.below)) sought_name
 
-      pub sought_has : has w (dict_in (lines_of text)) ≡ true
-      sought_has = let long = count_in in has_at w (dict_in (lines_of text)) (r - 1) (let y = sought_below in omega arith) sought_name
+    -- no other number has that name
+    pub sought_only : (k : ℕ) → k < c → name_in (lines_of text) k ≡ w → k ≡ r
+    sought_only k l e = g.store.unique k r l s.below (name_in_lem k l ∙ e ∙ sym s.name)
 
-      -- no other number has that name
-      pub sought_only : (k : ℕ) → k < c → name_in (lines_of text) k ≡ w → k ≡ r - 1
-      sought_only k l e = g.store.unique k (r - 1) l sought_below (name_in_lem k l ∙ e ∙ sym (s.hit p))
-
-      pub sought_number : r - 1 ≡ number_of w (dict_in (lines_of text))
-      sought_number = old_number g.store s p ∙ ap (number_of w) g.dict
+    pub sought_number : r ≡ number_of w (dict_in (lines_of text))
+    sought_number = old_number g.store s ∙ ap (number_of w) g.dict

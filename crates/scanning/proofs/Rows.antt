@@ -2,6 +2,7 @@
 -- Assumes nothing.
 use mathlib.Core.Path.{◌≡◌, refl, sym, ap, ◌∙◌, subst}
 use mathlib.Core.Bool.{Bool, true, false, cond, true≢false, false≢true}
+use Rattle.std.specs.Prelude.{Option, Some, None}
 use mathlib.Core.List.{List, [], ◌∷◌}
 use Prim.Native.Nat.{ℕ, zero, suc, ◌+◌, ◌-◌, ◌<◌, ◌≤◌}
 use native.Mathlib.Decide.{dec_lt}
@@ -14,7 +15,7 @@ use Rattle.paper.specs.Equations.{names_of, rights_of, left_of}
 use Rattle.paper.specs.Spots.{between, places_from}
 use Rattle.lines.specs.Reading.{name_at, Ends, Divides, Steps, Joined, Reads, ReadsAt}
 use Rattle.lines.specs.declared.Kind.{Kind}
-use Rattle.lines.specs.declared.Kind.TheVariants.{Bad, Chance, Or, And, AtLeast}
+use Rattle.lines.specs.declared.Kind.TheVariants.{Chance, Or, And, AtLeast}
 use Rattle.scanning.specs.Scanning.{RowAt}
 use Rattle.scanning.specs.Judged.{is_equation, IsEquation, LineAt}
 use Rattle.lines.proofs.Leads.{lead_no, lead_none, past_first, drop_at_end}
@@ -128,7 +129,7 @@ names_is e = ap names_of e.is
 pub rights_is : {L : Line} {x sep : List ℕ} {ys : List (List ℕ)} → Equates L x sep ys → rights_of L ≡ ys
 rights_is e = ap rights_of e.is
 
-module _ {text : List ℕ} {L : Line} {x : List ℕ} {at : ℕ} {kind : Kind} {stop : ℕ} (l : LineAt text L x at kind stop) where
+module _ {text : List ℕ} {L : Line} {x : List ℕ} {at : ℕ} {kind : Option Kind} {stop : ℕ} (l : LineAt text L x at kind stop) where
   row_of : {c : Connective} {sep : List ℕ} {i : ℕ} → Divides letter_or_digit sep → Joined (take stop text) L x at c sep i → RowAt text stop sep i
   row_of d j = record {
     divides = d;
@@ -138,22 +139,22 @@ module _ {text : List ℕ} {L : Line} {x : List ℕ} {at : ℕ} {kind : Kind} {s
     row = j.row;
   }
 
-  pub or_row : {i : ℕ} → kind ≡ Or i → RowAt text stop or_word i
+  pub or_row : {i : ℕ} → kind ≡ Some (Or i) → RowAt text stop or_word i
   or_row e = row_of or_divides (rw e at l.reads)
 
-  pub or_is : {i : ℕ} → kind ≡ Or i → Equates L x or_word (parts or_word (drop i (take stop text)))
+  pub or_is : {i : ℕ} → kind ≡ Some (Or i) → Equates L x or_word (parts or_word (drop i (take stop text)))
   or_is e = record { by = by_or; divided = refl; is = (rw e at l.reads).is }
 
-  pub and_row : {i : ℕ} → kind ≡ And i → RowAt text stop and_word i
+  pub and_row : {i : ℕ} → kind ≡ Some (And i) → RowAt text stop and_word i
   and_row e = row_of and_divides (rw e at l.reads)
 
-  pub and_is : {i : ℕ} → kind ≡ And i → Equates L x and_word (parts and_word (drop i (take stop text)))
+  pub and_is : {i : ℕ} → kind ≡ Some (And i) → Equates L x and_word (parts and_word (drop i (take stop text)))
   and_is e = record { by = by_and; divided = refl; is = (rw e at l.reads).is }
 
-  pub least_row : {m i : ℕ} → kind ≡ AtLeast m i → RowAt text stop comma i
+  pub least_row : {m i : ℕ} → kind ≡ Some (AtLeast m i) → RowAt text stop comma i
   least_row e = row_of comma_divides (rw e at l.reads).joined
 
-  pub least_is : {m i : ℕ} → kind ≡ AtLeast m i → Equates L x comma (parts comma (drop i (take stop text)))
+  pub least_is : {m i : ℕ} → kind ≡ Some (AtLeast m i) → Equates L x comma (parts comma (drop i (take stop text)))
   least_is e = record { by = at_least (rw e at l.reads).number; divided = refl; is = (rw e at l.reads).joined.is }
 
   -- an equation, or no left name
@@ -163,25 +164,25 @@ module _ {text : List ℕ} {L : Line} {x : List ℕ} {at : ℕ} {kind : Kind} {s
   pub equation_read : is_equation kind ≡ true → IsEquation L x
   equation_read h = go kind h l.reads
     where
-      go : (k : Kind) → is_equation k ≡ true → Reads (take stop text) L x at k → IsEquation L x
-      go Bad q w = absurd (false≢true q)
-      go (Chance v) q w = absurd (false≢true q)
-      go (Or i) q w = is_equation_lem or_divides w
-      go (And i) q w = is_equation_lem and_divides w
-      go (AtLeast m i) q w = is_equation_lem comma_divides w.joined
+      go : (k : Option Kind) → is_equation k ≡ true → Reads (take stop text) L x at k → IsEquation L x
+      go None q w = absurd (false≢true q)
+      go (Some (Chance v)) q w = absurd (false≢true q)
+      go (Some (Or i)) q w = is_equation_lem or_divides w
+      go (Some (And i)) q w = is_equation_lem and_divides w
+      go (Some (AtLeast m i)) q w = is_equation_lem comma_divides w.joined
 
   pub other_read : is_equation kind ≡ false → left_of L ≡ []
   other_read h = go kind h l.reads
     where
-      go : (k : Kind) → is_equation k ≡ false → Reads (take stop text) L x at k → left_of L ≡ []
-      go Bad q w = ap left_of w
-      go (Chance v) q w = ap left_of w.is
-      go (Or i) q w = absurd (true≢false q)
-      go (And i) q w = absurd (true≢false q)
-      go (AtLeast m i) q w = absurd (true≢false q)
+      go : (k : Option Kind) → is_equation k ≡ false → Reads (take stop text) L x at k → left_of L ≡ []
+      go None q w = ap left_of w
+      go (Some (Chance v)) q w = ap left_of w.is
+      go (Some (Or i)) q w = absurd (true≢false q)
+      go (Some (And i)) q w = absurd (true≢false q)
+      go (Some (AtLeast m i)) q w = absurd (true≢false q)
 
 -- the line that was just read
-pub line_at : {text : List ℕ} {at : ℕ} {kind : Kind} {stop next : ℕ} (r : ReadsAt text at kind stop next) → LineAt text r.line (name_at text at) at kind stop
+pub line_at : {text : List ℕ} {at : ℕ} {kind : Option Kind} {stop next : ℕ} (r : ReadsAt text at kind stop next) → LineAt text r.line (name_at text at) at kind stop
 line_at {text} {at} {kind} {stop} {next} r = record {
   inside = r.ends.inside;
   closed = line_closed_name r.ends;

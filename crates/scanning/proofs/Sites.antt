@@ -2,6 +2,7 @@
 -- Assumes nothing.
 use mathlib.Core.Path.{◌≡◌, refl, sym, ap, ◌∙◌, subst}
 use mathlib.Core.Bool.{true, not}
+use Rattle.std.specs.Prelude.{Option, Some, None}
 use mathlib.Core.List.{List, [], ◌∷◌}
 use Prim.Native.Nat.{ℕ, zero, suc, ◌-◌, ◌<◌}
 use native.Mathlib.Omega.{arith}
@@ -14,7 +15,7 @@ use Rattle.paper.specs.Equations.{has, numbers, names_of, dict_in, name_in, left
 use Rattle.paper.specs.Walks.{is_event}
 use Rattle.lines.specs.Reading.{name_at, Reads, ReadsAt}
 use Rattle.lines.specs.declared.Kind.{Kind}
-use Rattle.lines.specs.declared.Kind.TheVariants.{Bad, Chance, Or, And, AtLeast}
+use Rattle.lines.specs.declared.Kind.TheVariants.{Chance, Or, And, AtLeast}
 use Rattle.scanning.specs.Judged.{IsEquation, Home, Site, Places, ReadsOf}
 use Rattle.lines.proofs.Leads.{lead_none, drop_at_end}
 use Rattle.lines.proofs.Tests.{and_second}
@@ -25,7 +26,7 @@ site_at {n = n} l h = l.site n h
 
 -- ---- the line read again
 
-pub no_line : {text F : List ℕ} {n : ℕ} → Site text F n → get_or F n 0 ≡ 0 → ReadsOf text F n Bad (length text)
+pub no_line : {text F : List ℕ} {n : ℕ} → Site text F n → get_or F n 0 ≡ 0 → ReadsOf text F n None (length text)
 no_line {text} {F} {n} s e = record {
   inside = omega arith;
   closed = ap (lead letter_or_digit) (drop_at_end text (length text) (omega arith)) ∙ lead_none letter_or_digit;
@@ -41,18 +42,18 @@ head_name [] = []
 head_name (w ∷ ws) = w
 
 -- a line that is an equation of w, read, has the left name w
-left_is : (s : List ℕ) (L : Line) (x w : List ℕ) (at : ℕ) → IsEquation L w → (k : Kind) → Reads s L x at k → Reads s L w at k
+left_is : (s : List ℕ) (L : Line) (x w : List ℕ) (at : ℕ) → IsEquation L w → (k : Option Kind) → Reads s L x at k → Reads s L w at k
 left_is s L x w at q k r = go k r
   where
     own : {c : Connective} {ys : List (List ℕ)} → L ≡ equation x c ys → x ≡ w
     own e = ap (λ l. head_name (left_of l)) (sym e ∙ q.is)
 
-    go : (k : Kind) → Reads s L x at k → Reads s L w at k
-    go Bad a = a
-    go (Chance v) a = a
-    go (Or i) a = subst (λ y. Reads s L y at (Or i)) (own a.is) a
-    go (And i) a = subst (λ y. Reads s L y at (And i)) (own a.is) a
-    go (AtLeast m i) a = subst (λ y. Reads s L y at (AtLeast m i)) (own a.joined.is) a
+    go : (k : Option Kind) → Reads s L x at k → Reads s L w at k
+    go None a = a
+    go (Some (Chance v)) a = a
+    go (Some (Or i)) a = subst (λ y. Reads s L y at (Some (Or i))) (own a.is) a
+    go (Some (And i)) a = subst (λ y. Reads s L y at (Some (And i))) (own a.is) a
+    go (Some (AtLeast m i)) a = subst (λ y. Reads s L y at (Some (AtLeast m i))) (own a.joined.is) a
 
 module _ {text F : List ℕ} {n : ℕ} (s : Site text F n) (some : get_or F n 0 ≡ 0 → ⊥) {p : ℕ} (ep : p ≡ get_or F n 0) where
   its_home : Home text (name_in (lines_of text) n) (p - 1)
@@ -61,7 +62,7 @@ module _ {text F : List ℕ} {n : ℕ} (s : Site text F n) (some : get_or F n 0 
   pub home_room : p - 1 < length text
   home_room = its_home.inside
 
-  pub its_line : {kind : Kind} {stop next : ℕ} → ReadsAt text (p - 1) kind stop next → ReadsOf text F n kind stop
+  pub its_line : {kind : Option Kind} {stop next : ℕ} → ReadsAt text (p - 1) kind stop next → ReadsOf text F n kind stop
   its_line {kind} {stop} r =
       let e : r.line ≡ its_home.line = ap head_line (sym r.says ∙ its_home.says) in
       let a = line_at r in

@@ -1,7 +1,7 @@
 -- NUMBERS 15 AND 16: where a text's left names are defined, which left name stands twice, and the first wrong line.
 -- ls is short for the text's lines, and c the number of its names.
 -- Assumes nothing.
-use Rattle.std.specs.Prelude.{◌≡◌, Bool, true, false, List, [], ◌∷◌, ℕ, suc, ◌-◌, ◌<◌, ◌≤◌, get_or, length, drop, take, set}
+use Rattle.std.specs.Prelude.{◌≡◌, Option, Some, None, Result, Ok, Err, ⊤, Bool, true, false, List, [], ◌∷◌, ℕ, suc, ◌-◌, ◌<◌, ◌≤◌, get_or, length, drop, take, set}
 use Rattle.paper.specs.Lists.{every}
 use Rattle.paper.specs.Grammar.{Line, bad, equation, Connective}
 use Rattle.paper.specs.Texts.{Placed, says, lines_from, lines_of}
@@ -9,19 +9,22 @@ use Rattle.paper.specs.Equations.{has, names_of, names_in, dict_in, name_in, def
 use Rattle.paper.specs.Importing.{or_else, Lines}
 use Rattle.lines.specs.Reading.{name_at, Capped, Reads}
 use Rattle.lines.specs.declared.Kind.{Kind}
-use Rattle.lines.specs.declared.Kind.TheVariants.{Bad, Chance, Or, And, AtLeast}
+use Rattle.lines.specs.declared.Kind.TheVariants.{Chance, Or, And, AtLeast}
 use Rattle.scanning.specs.Scanning.{Gathered}
-use Rattle.scanning.specs.declared.judging.Chances.{Chances}
-use Rattle.scanning.specs.declared.judging.Chances.TheVariants.{Given, Wrong}
-use Rattle.scanning.specs.declared.Scanned.{Scanned}
-use Rattle.scanning.specs.declared.Scanned.TheVariants.{Done, Fifteen, Sixteen}
+use Rattle.scanning.specs.declared.Refusal.{Refusal}
+use Rattle.scanning.specs.declared.Refusal.TheVariants.{WrongLine, DefinedTwice}
 
-abbrev pub is_equation : Kind → Bool
-is_equation Bad = false
-is_equation (Chance v) = false
-is_equation (Or i) = true
-is_equation (And i) = true
-is_equation (AtLeast k i) = true
+abbrev pub is_equation : Option Kind → Bool
+is_equation None = false
+is_equation (Some (Chance v)) = false
+is_equation (Some (Or i)) = true
+is_equation (Some (And i)) = true
+is_equation (Some (AtLeast k i)) = true
+
+-- one more than a place, and 0 for none
+abbrev pub place_code : Option ℕ → ℕ
+place_code None = 0
+place_code (Some at) = suc at
 
 -- ---- where the names are defined
 
@@ -74,13 +77,13 @@ pub record Defined (text : List ℕ) (c : ℕ) (F : List ℕ) (t : ℕ) : Type 0
   pub twice : t ≡ twice_in (lines_of text)
 
 -- a line that says L, with left name x, and begins at `at`: how it is read, and where it stops
-pub record LineAt (text : List ℕ) (L : Line) (x : List ℕ) (at : ℕ) (kind : Kind) (stop : ℕ) : Type 0 where
+pub record LineAt (text : List ℕ) (L : Line) (x : List ℕ) (at : ℕ) (kind : Option Kind) (stop : ℕ) : Type 0 where
   pub inside : stop ≤ length text
   pub closed : name_at text stop ≡ []
   pub reads : Reads (take stop text) L x at kind
 
--- THE LINE THAT DEFINES name n, read again: Bad where none does
-abbrev pub ReadsOf : (text F : List ℕ) (n : ℕ) (kind : Kind) (stop : ℕ) → Type 0
+-- THE LINE THAT DEFINES name n, read again: none where none does
+abbrev pub ReadsOf : (text F : List ℕ) (n : ℕ) (kind : Option Kind) (stop : ℕ) → Type 0
 ReadsOf text F n kind stop = LineAt text (line_in (name_in (lines_of text) n) (lines_of text)) (name_in (lines_of text) n) (get_or F n 0 - 1) kind stop
 
 -- ---- chances
@@ -118,19 +121,19 @@ abbrev pub Tells : (text : List ℕ) (c : ℕ) (M G : List ℕ) (w : List ℕ) (
 Tells text c M G w v M' G' true = Refused text c M w
 Tells text c M G w v M' G' false = Kept text c M G w v M' G'
 
--- the line at `at` is wrong, or it is not
-pub record Passes (text : List ℕ) (c : ℕ) (M G : List ℕ) (at next : ℕ) (b : Bool) : Type 0 where
-  pub refused : b ≡ true → wrong_in (lines_of text) ≡ suc at
-  pub on : b ≡ false → Giving text c M G next
+-- the line at `at` is not wrong, and the next one begins there; or it is
+abbrev pub Passes : (text : List ℕ) (c : ℕ) (M G : List ℕ) (at : ℕ) → Option ℕ → Type 0
+Passes text c M G at (Some next) = (at < next) × Giving text c M G next
+Passes text c M G at None = wrong_in (lines_of text) ≡ suc at
 
 -- no line is wrong, and G has each name's chance
 pub record Right (text : List ℕ) (c : ℕ) (G : List ℕ) : Type 0 where
   pub none : wrong_in (lines_of text) ≡ 0
   pub each : (n : ℕ) → n < c → Capped (chance_in (name_in (lines_of text) n) (lines_of text)) (get_or G n 0)
 
-abbrev pub Gives : (text : List ℕ) (c : ℕ) (G : List ℕ) → Chances → Type 0
-Gives text c G Given = Right text c G
-Gives text c G (Wrong at) = wrong_in (lines_of text) ≡ suc at
+abbrev pub Gives : (text : List ℕ) (c : ℕ) (G : List ℕ) → Result ⊤ ℕ → Type 0
+Gives text c G (Ok _) = Right text c G
+Gives text c G (Err at) = wrong_in (lines_of text) ≡ suc at
 
 -- ---- the scan
 
@@ -141,8 +144,12 @@ pub record Names (text N H X : List ℕ) (c : ℕ) (F G : List ℕ) : Type 0 whe
   pub places : Places text c F
   pub chances : (n : ℕ) → n < c → Capped (chance_in (name_in (lines_of text) n) (lines_of text)) (get_or G n 0)
 
--- THE SCAN: the first wrong line (15), else the first line whose left name stands twice (16), else the names
-abbrev pub Scans : (text N H X F G : List ℕ) → Scanned → Type 0
-Scans text N H X F G (Done c) = Names text N H X c F G
-Scans text N H X F G (Fifteen at) = wrong_in (lines_of text) ≡ suc at
-Scans text N H X F G (Sixteen at) = (wrong_in (lines_of text) ≡ 0) × (twice_in (lines_of text) ≡ suc at)
+-- the first wrong line (15), else the first line whose left name stands twice (16)
+abbrev pub Refuses : (text : List ℕ) → Refusal → Type 0
+Refuses text (WrongLine at) = wrong_in (lines_of text) ≡ suc at
+Refuses text (DefinedTwice at) = (wrong_in (lines_of text) ≡ 0) × (twice_in (lines_of text) ≡ suc at)
+
+-- THE SCAN: why the text is refused, or the names
+abbrev pub Scans : (text N H X F G : List ℕ) → Result ℕ Refusal → Type 0
+Scans text N H X F G (Ok c) = Names text N H X c F G
+Scans text N H X F G (Err e) = Refuses text e

@@ -1,28 +1,22 @@
 // Where each name of a text is defined, and whether a left name stands twice.
 ghost use Rattle.std.specs.Prelude.{◌≡◌, ◌<◌, ◌≤◌, length};
 ghost use Rattle.scanning.specs.Scanning.{Gathered};
-ghost use Rattle.scanning.specs.Judged.{is_equation, Defining, Defined, Site, ReadsOf};
+ghost use Rattle.scanning.specs.Judged.{is_equation, place_code, Defining, Defined, Site, ReadsOf};
 
 use lines::{Kind, Read, line};
-use names::{clear, look, place};
+use names::{look, place};
 
-fn is_equation(kind: Kind) -> bool
+fn is_equation(kind: Option<Kind>) -> bool
     ensures { result ≡ is_equation kind }
 {
-    match kind {
-        Kind::Bad => false,
-        Kind::Chance(v) => false,
-        Kind::Or(i) => true,
-        Kind::And(i) => true,
-        Kind::AtLeast(k, i) => true,
-    }
+    matches!(kind, Some(Kind::Or(_) | Kind::And(_) | Kind::AtLeast(_, _)))
 }
 
-// How far the text is looked through, and one more than the place of the first line whose left name stands twice.
+// How far the text is looked through, and the place of the first line whose left name stands twice.
 #[derive(Clone, Copy)]
 pub struct Told {
     pub next: usize,
-    pub twice: usize,
+    pub twice: Option<usize>,
 }
 
 // Keeps the place of the line that begins at `at` as its left name's, if it is an equation.
@@ -34,45 +28,30 @@ fn define_line(
     names: &[u32],
     count: u32,
     defs: &mut [u32],
-    twice: usize,
+    twice: Option<usize>,
 ) -> Told
     requires gathered { Gathered text.now names.now heads.now next.now count }
-    requires defining { Defining text.now count defs.old twice at }
+    requires defining { Defining text.now count defs.old (place_code twice) at }
     requires at_in_bounds { at < length text.now }
-    ensures { (at < result.next) × Defining text.now count defs.new result.twice result.next }
+    ensures { (at < result.next) × Defining text.now count defs.new (place_code result.twice) result.next }
 {
     let r = line(text, at);
-    let kind = r.kind;
     let to = r.next;
-    if !is_equation(kind) {
-        return Told {
-            next: to,
-            twice: twice,
-        };
+    if !is_equation(r.kind) {
+        return Told { next: to, twice };
     }
-    let f = look(text, at, heads, next, names, count);
-    let n = place(f) - 1;
+    let n = place(look(text, at, heads, next, names, count).unwrap());
     if defs[n] == 0 {
-        let here = at + 1;
-        defs[n] = here as u32;
-        return Told {
-            next: to,
-            twice: twice,
-        };
-    }
-    if twice == 0 {
-        return Told {
-            next: to,
-            twice: at + 1,
-        };
+        defs[n] = (at + 1) as u32;
+        return Told { next: to, twice };
     }
     Told {
         next: to,
-        twice: twice,
+        twice: twice.or(Some(at)),
     }
 }
 
-// Finds where each name is defined; answers one more than the place of the first line whose left name stands twice, or 0.
+// Finds where each name is defined; answers the place of the first line whose left name stands twice.
 pub fn define(
     text: &[u8],
     heads: &[u32],
@@ -80,13 +59,13 @@ pub fn define(
     names: &[u32],
     count: u32,
     defs: &mut [u32],
-) -> usize
+) -> Option<usize>
     requires gathered { Gathered text.now names.now heads.now next.now count }
     requires count_in_bounds { count ≤ length defs.old }
-    ensures { Defined text.now count defs.new result }
+    ensures { Defined text.now count defs.new (place_code result) }
 {
-    clear(defs);
-    let mut twice: usize = 0;
+    defs.fill(0);
+    let mut twice = None;
     let mut at = 0;
     while at < text.len() {
         let w = define_line(text, at, heads, next, names, count, defs, twice);
@@ -96,7 +75,7 @@ pub fn define(
     twice
 }
 
-// The line that defines the name with number `n`, read again: Bad where none does.
+// The line that defines the name with number `n`, read again: none where none does.
 pub fn line_of(text: &[u8], defs: &[u32], n: usize) -> Read
     requires { Site text.now defs.now n }
     ensures { ReadsOf text.now defs.now n result.kind result.stop }
@@ -104,7 +83,7 @@ pub fn line_of(text: &[u8], defs: &[u32], n: usize) -> Read
     let def = defs[n];
     if def == 0 {
         return Read {
-            kind: Kind::Bad,
+            kind: None,
             stop: text.len(),
             next: text.len(),
         };

@@ -36,8 +36,7 @@ fn fill_row(
     let mut j = i;
     while j < stop {
         let to = next_in_line(text, stop, j, sep);
-        let f = look(text, j, heads, next, names, count);
-        inputs[u] = f - 1;
+        inputs[u] = look(text, j, heads, next, names, count).unwrap();
         u += 1;
         j = to;
     }
@@ -62,14 +61,15 @@ fn fill_name(
     ensures { Put (inputs_in (lines_of text.now) n) row.old u row.new result }
 {
     let r = line_of(text, defs, n);
-    let kind = r.kind;
     let stop = r.stop;
+    let Some(kind) = r.kind else {
+        return u;
+    };
     match kind {
-        Kind::Bad => u,
-        Kind::Chance(v) => u,
+        Kind::Chance(_) => u,
         Kind::Or(i) => fill_row(text, stop, i, b" or ", heads, next, names, count, row, u),
         Kind::And(i) => fill_row(text, stop, i, b" and ", heads, next, names, count, row, u),
-        Kind::AtLeast(k, i) => fill_row(text, stop, i, b", ", heads, next, names, count, row, u),
+        Kind::AtLeast(_, i) => fill_row(text, stop, i, b", ", heads, next, names, count, row, u),
     }
 }
 
@@ -92,11 +92,9 @@ pub fn fill(
     let c = place(count);
     starts[0] = 0;
     let mut used: usize = 0;
-    let mut n = 0;
-    while n < c {
+    for n in 0..c {
         used = fill_name(text, n, heads, next, names, count, defs, inputs, used);
-        n += 1;
-        starts[n] = used as u32;
+        starts[n + 1] = used as u32;
     }
     used
 }

@@ -5,21 +5,7 @@ ghost use Rattle.scanning.specs.Scanning.{Gathered};
 ghost use Rattle.scanning.specs.Judged.{Places, Giving, Passes, Tells, Gives};
 
 use lines::{Kind, line};
-use names::{clear, look, place};
-
-// All chance lines and no others are right; or the place of the first wrong line.
-#[derive(Clone, Copy)]
-pub enum Chances {
-    Given,
-    Wrong(usize),
-}
-
-// How far the text is judged, and whether a line was wrong.
-#[derive(Clone, Copy)]
-pub struct Passed {
-    pub next: usize,
-    pub wrong: bool,
-}
+use names::{look, place};
 
 // Keeps the chance v of the name at `at + 2`, if that name may have one: whether it may not.
 fn give_chance(
@@ -39,11 +25,10 @@ fn give_chance(
     requires at_in_bounds { (at + 2 ≤ length text.now) × (count ≤ length marks.old) × (count ≤ length chances.old) }
     ensures { Tells text.now count marks.old chances.old (name_at text.now (at + 2)) v marks.new chances.new result }
 {
-    let f = look(text, at + 2, heads, next, names, count);
-    if f == 0 {
+    let Some(f) = look(text, at + 2, heads, next, names, count) else {
         return true;
-    }
-    let n = place(f) - 1;
+    };
+    let n = place(f);
     if 0 < defs[n] {
         return true;
     }
@@ -55,7 +40,7 @@ fn give_chance(
     false
 }
 
-// Judges the line that begins at `at`.
+// Judges the line that begins at `at`: the place of the next one, or none where it is wrong.
 fn give_line(
     text: &[u8],
     at: usize,
@@ -66,41 +51,23 @@ fn give_line(
     defs: &[u32],
     marks: &mut [u32],
     chances: &mut [u32],
-) -> Passed
+) -> Option<usize>
     requires gathered { Gathered text.now names.now heads.now next.now count }
     requires places { Places text.now count defs.now }
     requires giving { Giving text.now count marks.old chances.old at }
     requires at_in_bounds { at < length text.now }
-    ensures { (at < result.next) × Passes text.now count marks.new chances.new at result.next result.wrong }
+    ensures { Passes text.now count marks.new chances.new at result }
 {
     let r = line(text, at);
-    let kind = r.kind;
-    let to = r.next;
-    match kind {
-        Kind::Bad => Passed {
-            next: to,
-            wrong: true,
-        },
-        Kind::Chance(v) => {
-            let w = give_chance(text, at, v, heads, next, names, count, defs, marks, chances);
-            Passed { next: to, wrong: w }
+    if let Kind::Chance(v) = r.kind? {
+        if give_chance(text, at, v, heads, next, names, count, defs, marks, chances) {
+            return None;
         }
-        Kind::Or(i) => Passed {
-            next: to,
-            wrong: false,
-        },
-        Kind::And(i) => Passed {
-            next: to,
-            wrong: false,
-        },
-        Kind::AtLeast(k, i) => Passed {
-            next: to,
-            wrong: false,
-        },
     }
+    Some(r.next)
 }
 
-// The names' chances, or the first wrong line.
+// The names' chances, or the place of the first wrong line.
 pub fn give(
     text: &[u8],
     heads: &[u32],
@@ -110,21 +77,20 @@ pub fn give(
     defs: &[u32],
     marks: &mut [u32],
     chances: &mut [u32],
-) -> Chances
+) -> Result<(), usize>
     requires gathered { Gathered text.now names.now heads.now next.now count }
     requires places { Places text.now count defs.now }
     requires count_in_bounds { (count ≤ length marks.old) × (count ≤ length chances.old) }
     ensures { Gives text.now count chances.new result }
 {
-    clear(marks);
-    clear(chances);
+    marks.fill(0);
+    chances.fill(0);
     let mut at = 0;
     while at < text.len() {
-        let w = give_line(text, at, heads, next, names, count, defs, marks, chances);
-        if w.wrong {
-            return Chances::Wrong(at);
-        }
-        at = w.next;
+        let Some(to) = give_line(text, at, heads, next, names, count, defs, marks, chances) else {
+            return Err(at);
+        };
+        at = to;
     }
-    Chances::Given
+    Ok(())
 }

@@ -1,4 +1,4 @@
-// A text of equations, pass by pass: its names as numbers, the line that defines each, its chance, and its inputs; or number 15 or 16.
+// A text of equations, pass by pass: its names as numbers, the line that defines each, its chance, and its inputs; or why it is refused.
 #![tactic(auto)]
 
 pub mod numbering; // the names of all equations, interned
@@ -11,18 +11,17 @@ ghost use Rattle.scanning.specs.Scanning.{Lists};
 ghost use Rattle.scanning.specs.Judged.{Scans};
 
 use definitions::define;
-use judging::{Chances, give};
+use judging::give;
 use numbering::gather;
 
-// What the scan of a text finds: how many names there are, or number 15 or 16 with the place of the line.
-#[derive(Clone, Copy)]
-pub enum Scanned {
-    Done(u32),
-    Fifteen(usize),
-    Sixteen(usize),
+// Why a text is refused: its first wrong line is there (15), or the first line whose left name stands twice (16).
+#[derive(Clone, Copy, Debug, PartialEq, Eq)]
+pub enum Refusal {
+    WrongLine(usize),
+    DefinedTwice(usize),
 }
 
-// The scan: each name's number, its place in the text, the line that defines it and its chance.
+// The scan: each name's number, its place in the text, the line that defines it and its chance. Answers how many names there are.
 pub fn scan(
     text: &[u8],
     heads: &mut [u32],
@@ -31,21 +30,18 @@ pub fn scan(
     defs: &mut [u32],
     marks: &mut [u32],
     chances: &mut [u32],
-) -> Scanned
+) -> Result<u32, Refusal>
     requires lists { Lists text.now names.old heads.old next.old }
     requires text_in_bounds { (length text.now ≤ length defs.old) × (length text.now ≤ length marks.old) × (length text.now ≤ length chances.old) }
     ensures { Scans text.now names.new heads.new next.new defs.new chances.new result }
 {
     let count = gather(text, heads, next, names);
     let twice = define(text, heads, next, names, count, defs);
-    let g = give(text, heads, next, names, count, defs, marks, chances);
-    match g {
-        Chances::Wrong(at) => Scanned::Fifteen(at),
-        Chances::Given => {
-            if 0 < twice {
-                return Scanned::Sixteen(twice - 1);
-            }
-            Scanned::Done(count)
-        }
+    if let Err(at) = give(text, heads, next, names, count, defs, marks, chances) {
+        return Err(Refusal::WrongLine(at));
+    }
+    match twice {
+        Some(at) => Err(Refusal::DefinedTwice(at)),
+        None => Ok(count),
     }
 }

@@ -7,7 +7,7 @@ ghost use Rattle.names.specs.Interning.{Interned};
 ghost use Rattle.scanning.specs.Scanning.{RowAt, Room, Gathers, GathersLine, Lists, Gathered};
 
 use lines::{Kind, line, next_name};
-use names::{clear, intern};
+use names::intern;
 
 // How far the text is read, and how many names there are.
 #[derive(Clone, Copy)]
@@ -87,12 +87,13 @@ fn gather_line(
     ensures { GathersLine text.now at names.old c names.new heads.new next.new result.count result.next }
 {
     let r = line(text, at);
-    let kind = r.kind;
     let stop = r.stop;
     let to = r.next;
+    let Some(kind) = r.kind else {
+        return Went { next: to, count: c };
+    };
     match kind {
-        Kind::Bad => Went { next: to, count: c },
-        Kind::Chance(v) => Went { next: to, count: c },
+        Kind::Chance(_) => Went { next: to, count: c },
         Kind::Or(i) => {
             let n = gather_equation(text, at, stop, i, b" or ", heads, next, names, c);
             Went { next: to, count: n }
@@ -101,7 +102,7 @@ fn gather_line(
             let n = gather_equation(text, at, stop, i, b" and ", heads, next, names, c);
             Went { next: to, count: n }
         }
-        Kind::AtLeast(k, i) => {
+        Kind::AtLeast(_, i) => {
             let n = gather_equation(text, at, stop, i, b", ", heads, next, names, c);
             Went { next: to, count: n }
         }
@@ -113,7 +114,7 @@ pub fn gather(text: &[u8], heads: &mut [u32], next: &mut [u32], names: &mut [u32
     requires { Lists text.now names.old heads.old next.old }
     ensures { Gathered text.now names.new heads.new next.new result }
 {
-    clear(heads);
+    heads.fill(0);
     let mut count: u32 = 0;
     let mut at = 0;
     while at < text.len() {

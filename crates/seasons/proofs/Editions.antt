@@ -13,7 +13,7 @@ use Rattle.paper.specs.Forcing.{chances_under, force_tree}
 use Rattle.records.specs.Judge.{Book, accept, outcome}
 use Rattle.records.specs.Trees.{tree_of}
 use Rattle.memory.specs.Memory.{Memory}
-use Rattle.memory.specs.declared.Analysis.{Analysis}
+use Rattle.memory.specs.Analysis.{Analysis}
 use Rattle.analyser.specs.Analysed.{Analysed}
 use Rattle.settings.specs.States.{ChancesForced, Added}
 use Rattle.settings.proofs.Editions.{settings_stay, judgement_stays, empty_accepted, empty_free}

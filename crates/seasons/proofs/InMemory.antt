@@ -19,7 +19,7 @@ use Rattle.records.specs.declared.Tree.{Tree}
 use Rattle.trees.proofs.Lawful.{tree_events}
 use Rattle.build.specs.Memory.{start_of, Plan, Arrays}
 use Rattle.memory.specs.Memory.{Memory}
-use Rattle.memory.specs.declared.Analysis.{Analysis}
+use Rattle.memory.specs.Analysis.{Analysis}
 use Rattle.analysis.specs.Completing.{Sound}
 use Rattle.analysis.specs.Filling.{WasRead, Buildable, Filled}
 use Rattle.analysis.proofs.Reading.{read_buildable}

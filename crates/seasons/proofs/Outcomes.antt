@@ -4,29 +4,34 @@ use mathlib.Core.Path.{◌≡◌, refl, sym, ap, ◌∙◌, subst}
 use mathlib.Core.Logic.{◌≢◌}
 use mathlib.Core.List.{List}
 use Prim.Native.Nat.{ℕ}
+use native.Mathlib.Omega.{arith}
 use lib.ListN.{length}
+use Rattle.std.specs.Prelude.{Result, Ok, Err, IsErrAnd}
 use Rattle.paper.specs.Limits.{limits}
+use Rattle.paper.specs.Refusals.{number}
+use Rattle.paper.specs.declared.refusal.Refused.{Refused as Why}
+use Rattle.paper.proofs.Refusals.{number_above}
 use Rattle.paper.specs.Trees.{events}
 use Rattle.paper.specs.Trees as paper
 use Rattle.paper.specs.Answers.{Verdict}
 use Rattle.paper.specs.Store.{Settings, accepted, judge_store, settings_of}
 use Rattle.paper.specs.Forcing.{force_tree}
-use Rattle.rules.specs.Answers.{verdict}
-use Rattle.records.specs.Judge.{Outcome, accept, refuse, outcome}
+use Rattle.rules.specs.Answers.{reason, said}
+use Rattle.records.specs.Judge.{outcome}
 use Rattle.records.specs.Memory.{in_memory}
 use Rattle.records.specs.Trees.{tree_of, tree_in}
-use Rattle.records.specs.declared.Reading.{Reading}
+use Rattle.rules.specs.declared.Refusal.{Refusal}
+use Rattle.memory.specs.declared.Tables.{Tables}
 use Rattle.records.specs.declared.Tree.{Tree}
-use Rattle.trees.proofs.Promises.{Good, done_is_good}
+use Rattle.trees.proofs.Promises.{Good, done_is_good, refused_is_so}
 use Rattle.memory.specs.Memory.{Memory, Lengths}
 use Rattle.memory.specs.Outcome.{Refused, at}
-use Rattle.memory.specs.declared.Analysis.{Analysis}
+use Rattle.memory.specs.Analysis.{Analysis, analysis_of}
+use Rattle.memory.proofs.Refusing.{refuses}
 use Rattle.analysis.specs.Completing.{CutsFilled}
 use Rattle.analysis.specs.Filling.{WasRead, Filled, Tried}
 use Rattle.analysis.proofs.Reading.{read_is, read_count}
-use Rattle.analyser.proofs.Outcomes.{done_of}
-use Rattle.settings.specs.States.{Gives}
-use Rattle.settings.proofs.Chances.{judged_good}
+use Rattle.analyser.proofs.Outcomes.{says_so}
 use Rattle.forcing.specs.Codes.{force_in}
 use Rattle.forcing.proofs.Trees.{gates_long}
 use Rattle.seasons.specs.Seasons.{AnalysedTree, AnalysedUnder}
@@ -35,25 +40,17 @@ use Rattle.seasons.proofs.InMemory.{count_forced, filled_forced, read_events}
 
 -- ---- of a tree in memory
 
-refused_as : {v : Verdict} {n p : ℕ} {a : Analysis} → n ≡ v.number → p ≡ v.place → Refused (at n p) a → Refused v a
-refused_as q s f = record {
-  number = f.number ∙ q;
-  place = f.place ∙ s;
-  no_nodes = f.no_nodes;
-  no_cut_nodes = f.no_cut_nodes;
-  no_root = f.no_root;
-  no_cut_root = f.no_cut_root;
-}
+refused_as : {v : Verdict} (w : Why) → at (number w.why) w.place ≡ v → Refused v (analysis_of (Err w))
+refused_as {v} w q = subst (λ v. Refused v (analysis_of (Err w))) q (refuses w.why w.place)
 
-module _ (t : Tree) (store : List ℕ) (asked : ℕ) {n p : ℕ} (g : Gives (judge_store t.event_count store) n p) where
-  pub store_refused : n ≢ 0 → {a : Analysis} → Refused (at n p) a → (m : Memory) → TriedUnder t store asked m m a
-  store_refused z f m = TriedUnder.bad_store (λ e. z (g.number_is ∙ e)) (refused_as g.number_is g.place_is f) refl
+module _ (t : Tree) (store : List ℕ) (asked : ℕ) where
+  pub store_refused : (w : Why) → at (number w.why) w.place ≡ judge_store t.event_count store → (m : Memory) → TriedUnder t store asked m m (analysis_of (Err w))
+  store_refused w q m =
+      let h = number_above w.why in
+      TriedUnder.bad_store (λ e. let z = ap (λ v. v.number) q ∙ e in absurd (omega arith)) (refused_as w q) refl
 
-  store_good : n ≡ 0 → judge_store t.event_count store ≡ accepted
-  store_good z = judged_good t.event_count store g z
-
-  pub store_tried : n ≡ 0 → {s : Settings} {u : Tree} → s ≡ settings_of asked store → u ≡ force_in s t → {m m' : Memory} {a : Analysis} → Tried u m m' a → TriedUnder t store asked m m' a
-  store_tried z q e {m} {m'} {a} x = TriedUnder.tried (store_good z) (subst (λ y. Tried y m m' a) (e ∙ ap (λ r. force_in r t) q) x)
+  pub store_tried : judge_store t.event_count store ≡ accepted → {s : Settings} {u : Tree} → s ≡ settings_of asked store → u ≡ force_in s t → {m m' : Memory} {a : Analysis} → Tried u m m' a → TriedUnder t store asked m m' a
+  store_tried z q e {m} {m'} {a} x = TriedUnder.tried z (subst (λ y. Tried y m m' a) (e ∙ ap (λ r. force_in r t) q) x)
 
 -- ---- of a tree as the paper has it
 
@@ -75,33 +72,27 @@ tree_tried s t count {m} {m'} {a} x = go x
 
 -- ---- of the bytes
 
-module _ (bytes : List ℕ) {r : Reading} (e : r ≡ in_memory (outcome limits bytes)) where
+module _ (bytes : List ℕ) where
   -- 1 to 8 or 21: the reading's own number and place
-  pub under_refused : {n p : ℕ} → n ≡ (verdict r.answer).number → p ≡ (verdict r.answer).place → (n ≡ 0 → ⊥) → {a : Analysis} → Refused (at n p) a
-      → {store : List ℕ} {asked : ℕ} (m : Memory) → AnalysedUnder bytes store asked m m a
-  unfolding in_memory
-  under_refused {n} {p} q s h {a} f {store} {asked} m = go (outcome limits bytes) refl
-    where
-      go : (o : Outcome) → outcome limits bytes ≡ o → AnalysedUnder bytes store asked m m a
-      go (accept b) k = absurd (h (q ∙ ap (λ (x : Reading). (verdict x.answer).number) (e ∙ ap in_memory k)))
-      go (refuse w) k =
-          let same : verdict r.answer ≡ verdict w = ap (λ (x : Reading). verdict x.answer) (e ∙ ap in_memory k) in
-          AnalysedUnder.bad_tree w k (refused_as (q ∙ ap (λ v. v.number) same) (s ∙ ap (λ v. v.place) same) f) refl
+  pub under_refused : {a : Refusal} → Err a ≡ in_memory (outcome limits bytes) → (r : Result Tables Why) → IsErrAnd r (λ w. said w ≡ reason a)
+      → {store : List ℕ} {asked : ℕ} (m : Memory) → AnalysedUnder bytes store asked m m (analysis_of r)
+  under_refused e (Ok t) h m = absurd h
+  under_refused {a} e (Err w) h m = AnalysedUnder.bad_tree a (refused_is_so bytes e) (says_so w a h) refl
 
   -- accepted: the tree in memory was read
-  module _ {n : ℕ} (q : n ≡ (verdict r.answer).number) (z : n ≡ 0) where
-    abbrev good : Good bytes r.tree
-    good = done_is_good bytes e (done_of r.answer (sym q ∙ z))
+  module _ {t : Tree} (e : Ok t ≡ in_memory (outcome limits bytes)) where
+    abbrev good : Good bytes t
+    good = done_is_good bytes e
 
-    abbrev pub under_read : WasRead r.tree
+    abbrev pub under_read : WasRead t
     under_read = record { book = good.book; is = good.tree; lawful = good.lawful }
 
-    same_events : r.tree.event_count ≡ events (tree_of good.book)
+    same_events : t.event_count ≡ events (tree_of good.book)
     same_events = read_events under_read
 
-    pub under_tried : {store : List ℕ} {asked : ℕ} {m m' : Memory} {a : Analysis} → TriedUnder r.tree store asked m m' a → AnalysedUnder bytes store asked m m' a
+    pub under_tried : {store : List ℕ} {asked : ℕ} {m m' : Memory} {a : Analysis} → TriedUnder t store asked m m' a → AnalysedUnder bytes store asked m m' a
     under_tried {store} {asked} {m} {m'} {a} (TriedUnder.bad_store h f k) =
         AnalysedUnder.bad_store good.book good.accepted (subst (λ k. (judge_store k store).number ≢ 0) same_events h) (subst (λ k. Refused (judge_store k store) a) same_events f) k
     under_tried {store} {asked} {m} {m'} {a} (TriedUnder.tried h x) =
         AnalysedUnder.analysed good.book good.accepted (subst (λ k. judge_store k store ≡ accepted) same_events h)
-        (subst (λ t. AnalysedTree (force_tree (settings_of asked store) t) m m' a) (read_is under_read) (tree_tried (settings_of asked store) r.tree (read_count under_read) x))
+        (subst (λ x. AnalysedTree (force_tree (settings_of asked store) x) m m' a) (read_is under_read) (tree_tried (settings_of asked store) t (read_count under_read) x))

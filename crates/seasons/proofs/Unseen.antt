@@ -12,7 +12,7 @@ use Rattle.paper.specs.Cuts.{cut_list, cuts_needed, cut_nodes_needed}
 use Rattle.paper.specs.Answers.{NodesFull, FilledAt, CutsFull}
 use Rattle.memory.specs.Memory.{Memory}
 use Rattle.memory.specs.Outcome.{function_of, family_of, Table, Holds, GateList, AddedList, Done}
-use Rattle.memory.specs.declared.Analysis.{Analysis}
+use Rattle.memory.specs.Analysis.{Analysis}
 use Rattle.analysis.specs.Completing.{CutsFilled}
 use Rattle.analysis.specs.Filling.{Filled}
 

@@ -6,13 +6,13 @@ use Rattle.paper.specs.Trees.{Tree, events}
 use Rattle.paper.specs.Answers.{NodesFull, FilledAt, CutsFull}
 use Rattle.paper.specs.Store.{accepted, judge_store, settings_of}
 use Rattle.paper.specs.Forcing.{force_tree}
-use Rattle.rules.specs.Answers.{verdict}
-use Rattle.rules.specs.declared.Answer.{Answer}
+use Rattle.rules.specs.Answers.{reason}
+use Rattle.rules.specs.declared.Refusal.{Refusal}
 use Rattle.records.specs.Judge.{Book, accept, refuse, outcome}
 use Rattle.records.specs.Trees.{tree_of}
 use Rattle.memory.specs.Memory.{Memory, Lengths, AllZero, capacity}
 use Rattle.memory.specs.Outcome.{Refused, at, Done}
-use Rattle.memory.specs.declared.Analysis.{Analysis}
+use Rattle.memory.specs.Analysis.{Analysis}
 
 -- of the tree t, from 9 on
 pub data AnalysedTree (t : Tree) (m m' : Memory) (a : Analysis) : Type 0 where
@@ -27,7 +27,7 @@ tree_under asked store b = force_tree (settings_of asked store) (tree_of b)
 
 -- the bytes, the store, the asked edition, what was lent before and after, and the answer
 pub data AnalysedUnder (bytes store : List ℕ) (asked : ℕ) (m m' : Memory) (a : Analysis) : Type 0 where
-  bad_tree : (w : Answer) → outcome limits bytes ≡ refuse w → Refused (verdict w) a → m' ≡ m → AnalysedUnder bytes store asked m m' a
+  bad_tree : (w : Refusal) → outcome limits bytes ≡ refuse w → Refused (reason w) a → m' ≡ m → AnalysedUnder bytes store asked m m' a
   bad_store : (b : Book) → outcome limits bytes ≡ accept b → (judge_store (events (tree_of b)) store).number ≢ 0 → Refused (judge_store (events (tree_of b)) store) a → m' ≡ m
       → AnalysedUnder bytes store asked m m' a
   analysed : (b : Book) → outcome limits bytes ≡ accept b → judge_store (events (tree_of b)) store ≡ accepted → AnalysedTree (tree_under asked store b) m m' a

@@ -5,7 +5,7 @@ use Rattle.paper.specs.Store.{accepted, judge_store, settings_of}
 use Rattle.records.specs.declared.Tree.{Tree}
 use Rattle.memory.specs.Memory.{Memory}
 use Rattle.memory.specs.Outcome.{Refused}
-use Rattle.memory.specs.declared.Analysis.{Analysis}
+use Rattle.memory.specs.Analysis.{Analysis}
 use Rattle.analysis.specs.Filling.{Tried}
 use Rattle.forcing.specs.Codes.{force_in}
 

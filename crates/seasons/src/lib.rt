@@ -2,11 +2,13 @@
 #![tactic(auto)]
 
 ghost use Rattle.memory.specs.Memory.{memory};
+ghost use Rattle.memory.specs.Analysis.{analysis_of};
 ghost use Rattle.analysis.specs.Filling.{WasRead};
 ghost use Rattle.seasons.specs.Seasons.{AnalysedUnder};
 ghost use Rattle.seasons.specs.Steps.{TriedUnder};
 
-use memory::Analysis;
+use memory::Tables;
+use paper::refusal::Refused;
 use records::Tree;
 
 // Of a tree that was read: its forced events become constants before it is built.
@@ -23,15 +25,12 @@ fn analyse_read(
     next: &mut [u32],
     marks: &mut [u32],
     own: &mut [u32],
-) -> Analysis
+) -> Result<Tables, Refused>
     requires { WasRead tree }
-    ensures { TriedUnder tree store.now edition (memory nodes.old cuts.old gates.old added.old memo.old heads.old next.old marks.old own.old) (memory nodes.new cuts.new gates.new added.new memo.new heads.new next.new marks.new own.new) result }
+    ensures { TriedUnder tree store.now edition (memory nodes.old cuts.old gates.old added.old memo.old heads.old next.old marks.old own.old) (memory nodes.new cuts.new gates.new added.new memo.new heads.new next.new marks.new own.new) (analysis_of result) }
 {
     let events = tree.event_count;
-    let j = settings::judge(store, events);
-    if j.number != 0 {
-        return memory::refused(j.number, j.place);
-    }
+    settings::judge(store, events)?;
     let states = settings::states_under(store, events, edition);
     let under = forcing::force_tree(tree, &states);
     analysis::analyse_tree(
@@ -53,16 +52,10 @@ pub fn analyse_season(
     next: &mut [u32],
     marks: &mut [u32],
     own: &mut [u32],
-) -> Analysis
-    ensures { AnalysedUnder bytes.now store.now edition (memory nodes.old cuts.old gates.old added.old memo.old heads.old next.old marks.old own.old) (memory nodes.new cuts.new gates.new added.new memo.new heads.new next.new marks.new own.new) result }
+) -> Result<Tables, Refused>
+    ensures { AnalysedUnder bytes.now store.now edition (memory nodes.old cuts.old gates.old added.old memo.old heads.old next.old marks.old own.old) (memory nodes.new cuts.new gates.new added.new memo.new heads.new next.new marks.new own.new) (analysis_of result) }
 {
-    let r = records::read(bytes);
-    let a = r.answer;
-    let number = rules::number(a);
-    if number != 0 {
-        return memory::refused(number, rules::place(a));
-    }
-    let tree = r.tree;
+    let tree = records::read(bytes)?;
     analyse_read(
         tree, store, edition, nodes, cuts, gates, added, memo, heads, next, marks, own,
     )

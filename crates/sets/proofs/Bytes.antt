@@ -13,13 +13,14 @@ use lib.ListN.{length, get_or, take, drop, set, length-append, length-drop, take
 use lib.Seq.{set_at, take_at, drop-cons, drop-drop, drop-append-add, length-take-le}
 use lib.Bits.{bit_and}
 use borrow.Author.Tests.{eq-eqb, ne_eqb}
+use Rattle.std.proofs.Common.{Some, None}
 use Rattle.paper.specs.Lists.{keep, up_to}
 use Rattle.paper.specs.Sets.{Set, none, put, members}
 use Rattle.paper.specs.Limits.{wide_from}
 use Rattle.paper.specs.Listing.{member, member_bytes, cut_bytes, set_bytes}
 use Rattle.paper.proofs.Listing.{narrow, wide, narrow_long, wide_long, no_bytes, bytes_cons_long, bytes_append, bytes_more, cut_long}
 use Rattle.sets.specs.Words.{bit, set_of, room, Trail}
-use Rattle.sets.specs.Bytes.{word_set, in_word, Told, Spelled, Begun, Laid}
+use Rattle.sets.specs.Bytes.{word_set, in_word, Put, Told, Spelled, Begun, Laid}
 use Rattle.sets.proofs.Bit.{bit_none, drop_own, drop_other, from_bit, clear_below, clear_kept}
 use Rattle.sets.proofs.Words.{set_in}
 use Rattle.sets.proofs.Count.{keep_agree, keep_add, keep_no, fewer_bytes}
@@ -123,6 +124,46 @@ joined room w part room₀ used n e b =
     ap₂ (λ (k : ℕ) (x : List ℕ). drop (k + n) x) (sym e) b ∙ drop-append-add w (drop used room₀) n ∙ drop-drop n used room₀ in
     ap₂ (λ (x y : List ℕ). x ++ (part ++ y)) front back ∙ sym (append_assoc w part (drop (used + n) room₀))
 
+-- ---- one member
+
+-- two stores, and three
+stored_two : (r : List ℕ) (n x y : ℕ) → n + 2 ≤ length r → set (set r n x) (n + 1) y ≡ (take n r ++ (x ∷ y ∷ [])) ++ drop (n + 2) r
+stored_two r n x y h =
+    let front = length-take-le n r (omega arith) in
+    let one = ap (λ (l : List ℕ). set l n x) (sym (take-append-drop n r)) ∙ seam (take n r) r n x front (omega arith) in
+    let here : n + 1 + 1 ≡ n + 2 = omega arith in
+    ap (λ (l : List ℕ). set l (n + 1) y) one ∙ seam (take n r ++ (x ∷ [])) r (n + 1) y (length-append (take n r) (x ∷ []) ∙ ap (λ (k : ℕ). k + 1) front) (omega arith)
+    ∙ ap₂ (λ (l : List ℕ) (j : ℕ). l ++ drop j r) (append_assoc (take n r) (x ∷ []) (y ∷ [])) here
+
+stored_three : (r : List ℕ) (n x y z : ℕ) → n + 3 ≤ length r → set (set (set r n x) (n + 1) y) (n + 2) z ≡ (take n r ++ (x ∷ y ∷ z ∷ [])) ++ drop (n + 3) r
+stored_three r n x y z h =
+    let front = length-take-le n r (omega arith) in
+    let here : n + 2 + 1 ≡ n + 3 = omega arith in
+    ap (λ (l : List ℕ). set l (n + 2) z) (stored_two r n x y (omega arith))
+    ∙ seam (take n r ++ (x ∷ y ∷ [])) r (n + 2) z (length-append (take n r) (x ∷ y ∷ []) ∙ ap (λ (k : ℕ). k + 2) front) (omega arith)
+    ∙ ap₂ (λ (l : List ℕ) (j : ℕ). l ++ drop j r) (append_assoc (take n r) (x ∷ y ∷ []) (z ∷ [])) here
+
+pub put_narrow : {e at : ℕ} {r : List ℕ} → e < wide_from → at + length (member e) ≤ length r → Put e at r (set (set r at 0x21) (at + 1) (e % 256)) (at + 2)
+put_narrow {e} {at} {r} l h =
+    let n = narrow_long e l in
+    let own : e % 256 ≡ e = omega arith in
+    record {
+      ends = omega arith;
+      bytes = stored_two r at 0x21 (e % 256) (omega arith)
+          ∙ ap (λ (x : List ℕ). (take at r ++ x) ++ drop (at + 2) r) (ap (λ (x : ℕ). 0x21 ∷ x ∷ []) own ∙ sym (narrow e l))
+          ∙ append_assoc (take at r) (member e) (drop (at + 2) r);
+    }
+
+pub put_wide : {e at : ℕ} {r : List ℕ} → wide_from ≤ e → at + length (member e) ≤ length r → Put e at r (set (set (set r at 0x23) (at + 1) (e % 256)) (at + 2) (e / 256)) (at + 3)
+put_wide {e} {at} {r} l h =
+    let n = wide_long e l in
+    record {
+      ends = omega arith;
+      bytes = stored_three r at 0x23 (e % 256) (e / 256) (omega arith)
+          ∙ ap (λ (x : List ℕ). (take at r ++ x) ++ drop (at + 3) r) (sym (wide e l))
+          ∙ append_assoc (take at r) (member e) (drop (at + 3) r);
+    }
+
 -- ---- the members of one word
 
 -- some members of the word w are written behind `at` bytes of the room r; the word v has the others
@@ -172,58 +213,29 @@ module _ {w m at : ℕ} {r room : List ℕ} {v end : ℕ} (s : Telling w m at r 
     pub tell_less : length (in_word (bit_and v (v - 1)) m) < length (in_word v m)
     tell_less = let q = ap length (word_more v m tr) in omega arith
 
-    pub tell_room : end + length (member (m + t)) ≤ length r
+    pub tell_room : end + length (member (m + t)) ≤ length room
     tell_room =
         let q = ap (λ (l : List ℕ). length (member_bytes l)) (word_more v m tr) ∙ bytes_cons_long (m + t) others in
         let a = all in
         let f = s.fits in
         let e = s.ends in
+        let l = tell_long in
         omega arith
 
-    -- the next member's record behind the others
-    tell_more : {room' : List ℕ} {n : ℕ} → n ≡ length (member (m + t)) → room' ≡ (so_far ++ member (m + t)) ++ drop (end + n) r → Telling w m at r room' (bit_and v (v - 1)) (end + n)
-    tell_more {n = n} q b =
+    -- the next member's bytes behind the others
+    pub tell_put : {room' : List ℕ} {n end' : ℕ} → Put (m + t) end room room' n → end' ≡ end + length (member (m + t)) → Telling w m at r room' (bit_and v (v - 1)) end'
+    tell_put {end' = end'} p q =
         let e = s.ends in
-        let la = ap length (bytes_more s.told (m + t)) ∙ length-append (member_bytes s.told) (member (m + t)) in
+        let part = member (m + t) in
+        let la = ap length (bytes_more s.told (m + t)) ∙ length-append (member_bytes s.told) part in
         record {
           told = s.told ++ ((m + t) ∷ []);
           whole = s.whole ∙ ap (λ (l : List ℕ). s.told ++ l) (word_more v m tr) ∙ sym (append_assoc s.told ((m + t) ∷ []) others);
           fits = s.fits;
           ends = omega arith;
-          bytes = b ∙ ap (λ (y : List ℕ). y ++ drop (end + n) r) (append_assoc (take at r) (member_bytes s.told) (member (m + t)) ∙ ap (λ (y : List ℕ). take at r ++ y) (sym (bytes_more s.told (m + t))));
+          bytes = p.bytes ∙ ap (λ (j : ℕ). take end room ++ (part ++ drop j room)) p.ends ∙ joined room so_far part r end (length part) front s.bytes
+              ∙ ap₂ (λ (y : List ℕ) (j : ℕ). y ++ drop j r) (append_assoc (take at r) (member_bytes s.told) part ∙ ap (λ (y : List ℕ). take at r ++ y) (sym (bytes_more s.told (m + t)))) (sym q);
         }
-
-    -- two stores
-    stored_two : (x y : ℕ) → end + 2 ≤ length r → set (set room end x) (end + 1) y ≡ (so_far ++ (x ∷ y ∷ [])) ++ drop (end + 2) r
-    stored_two x y h =
-        let one = ap (λ (l : List ℕ). set l end x) s.bytes ∙ seam so_far r end x front (omega arith) in
-        let here : end + 1 + 1 ≡ end + 2 = omega arith in
-        ap (λ (l : List ℕ). set l (end + 1) y) one ∙ seam (so_far ++ (x ∷ [])) r (end + 1) y (length-append so_far (x ∷ []) ∙ ap (λ (n : ℕ). n + 1) front) (omega arith)
-        ∙ ap₂ (λ (l : List ℕ) (j : ℕ). l ++ drop j r) (append_assoc so_far (x ∷ []) (y ∷ [])) here
-
-    module _ (h : m + t < wide_from) where
-      pub room_narrow : end + 2 ≤ length r
-      room_narrow = let a = narrow_long (m + t) h in let b = tell_room in omega arith
-
-      pub tell_narrow : Telling w m at r (set (set room end 0x21) (end + 1) (m + t)) (bit_and v (v - 1)) (end + 2)
-      tell_narrow = tell_more (sym (narrow_long (m + t) h)) (stored_two 0x21 (m + t) room_narrow ∙ ap (λ (l : List ℕ). (so_far ++ l) ++ drop (end + 2) r) (sym (narrow (m + t) h)))
-
-    module _ (h : wide_from ≤ m + t) where
-      pub room_wide : end + 3 ≤ length r
-      room_wide = let a = wide_long (m + t) h in let b = tell_room in omega arith
-
-      stored_wide : (x y z : ℕ) → set (set (set room end x) (end + 1) y) (end + 2) z ≡ (so_far ++ (x ∷ y ∷ z ∷ [])) ++ drop (end + 3) r
-      stored_wide x y z =
-          let g = room_wide in
-          let here : end + 2 + 1 ≡ end + 3 = omega arith in
-          ap (λ (l : List ℕ). set l (end + 2) z) (stored_two x y (omega arith))
-          ∙ seam (so_far ++ (x ∷ y ∷ [])) r (end + 2) z (length-append so_far (x ∷ y ∷ []) ∙ ap (λ (n : ℕ). n + 2) front) (omega arith)
-          ∙ ap₂ (λ (l : List ℕ) (j : ℕ). l ++ drop j r) (append_assoc so_far (x ∷ y ∷ []) (z ∷ [])) here
-
-      pub tell_wide : Telling w m at r (set (set (set room end 0x23) (end + 1) ((m + t) % 256)) (end + 2) ((m + t) / 256)) (bit_and v (v - 1)) (end + 3)
-      tell_wide =
-          tell_more (sym (wide_long (m + t) h))
-          (stored_wide 0x23 ((m + t) % 256) ((m + t) / 256) ∙ ap (λ (l : List ℕ). (so_far ++ l) ++ drop (end + 3) r) (sym (wide (m + t) h)))
 
   pub tell_end : v ≡ 0 → Told w m at r room end
   tell_end z =
@@ -299,19 +311,16 @@ module _ {ws r R : List ℕ} {b end : ℕ} (s : Spelling ws r R b end) where
 -- ---- a cut
 
 -- with the end of the cut behind its members
-pub laid_cut : (ws r : List ℕ) {size end : ℕ} {R : List ℕ} → size ≡ length (set_bytes (room ws) (set_of ws)) → size ≤ length r → Spelled ws r R (room ws) end → Laid (set_bytes (room ws) (set_of ws)) r (end + 1) (set R end 0x22)
+pub laid_cut : (ws r : List ℕ) {size end : ℕ} {R : List ℕ} → size ≡ length (set_bytes (room ws) (set_of ws)) → size ≤ length r → Spelled ws r R (room ws) end → Laid (set_bytes (room ws) (set_of ws)) r (Some (end + 1)) (set R end 0x22)
 unfolding cut_bytes
 laid_cut ws r {size} {end} {R} q h s =
     let l = members (room ws) (set_of ws) in
     let c = cut_long l in
     let e = s.ends in
-    record {
-      short = λ z. absurd (omega arith);
-      laid = λ z. (omega arith, omega arith, ap (λ (x : List ℕ). set x end 0x22) s.bytes ∙ seam (member_bytes l) r end 0x22 (sym e) (omega arith));
-    }
+    (omega arith, omega arith, ap (λ (x : List ℕ). set x end 0x22) s.bytes ∙ seam (member_bytes l) r end 0x22 (sym e) (omega arith))
 
-pub laid_short : (cut r : List ℕ) {size : ℕ} → size ≡ length cut → length r < size → Laid cut r 0 r
-laid_short cut r q h = record { short = λ _. (omega arith, refl); laid = λ z. absurd (omega arith) }
+pub laid_short : (cut r : List ℕ) {size : ℕ} → size ≡ length cut → length r < size → Laid cut r None r
+laid_short cut r q h = (omega arith, refl)
 
 -- where the whole cut fits, its members do
 pub members_fit : (ws r : List ℕ) {size : ℕ} → size ≡ length (set_bytes (room ws) (set_of ws)) → size ≤ length r → length (member_bytes (members (room ws) (set_of ws))) < length r

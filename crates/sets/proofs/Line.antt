@@ -4,12 +4,12 @@ use mathlib.Core.Path.{◌≡◌, refl, sym, ap, ap₂, ◌∙◌}
 use mathlib.Core.Bool.{Bool, true, false, cond}
 use mathlib.Core.List.{List, ◌++◌, append_assoc}
 use Prim.Native.Nat.{ℕ, ◌+◌, ◌-◌, ◌*◌, ◌/◌, ◌%◌, ◌^◌, ◌≤◌, ◌<◌}
-use native.Mathlib.Numerals.{add-one}
 use native.Mathlib.Omega.{arith}
 use lib.Dec.{leb}
 use lib.ListN.{length, get_or, set, take, drop}
-use lib.Seq.{take-suc, take_at, drop_at, drop-drop, drop-append-add, length-take-le}
+use lib.Seq.{take_at, drop_at, drop-drop, drop-append-add}
 use borrow.Author.Tests.{leb-true, leb-false}
+use Rattle.std.proofs.Common.{Some}
 use Rattle.paper.specs.Limits.{wide_from}
 use Rattle.paper.specs.Sets.{Set, members}
 use Rattle.paper.specs.Lists.{keep, up_to}
@@ -20,15 +20,8 @@ use Rattle.sets.specs.Bytes.{in_word, Told, Spelled, Begun, Laid}
 use Rattle.sets.specs.Beside.{Between, Ahead, Line, Counted, bytes_by}
 use Rattle.sets.proofs.Bit.{from_bit}
 use Rattle.sets.proofs.Count.{keep_agree, two_parts, fewer, members_all, count_le, narrow_bytes, fewer_bytes, wide_members, bytes_most}
-use Rattle.sets.proofs.Bytes.{members_word, members_on, seam, Spelling, spell_start, spell_long, spell_room, spell_more, spell_end, laid_cut, members_fit}
+use Rattle.sets.proofs.Bytes.{members_word, members_on, Spelling, spell_start, spell_long, spell_room, spell_more, spell_end, laid_cut, members_fit}
 use Rattle.sets.proofs.Beside.{low_word, high_word, all_members}
-
--- ---- copied
-
-pub copy_more : (line r : List ℕ) {R : List ℕ} {k : ℕ} → k < length line → k < length r → R ≡ take k line ++ drop k r → set R k (get_or line k 0) ≡ take (k + 1) line ++ drop (k + 1) r
-copy_more line r {k = k} h l e =
-    ap (λ (x : List ℕ). set x k (get_or line k 0)) e ∙ seam (take k line) r k (get_or line k 0) (length-take-le k line (omega arith)) l
-    ∙ ap (λ (x : List ℕ). x ++ drop (k + 1) r) (sym (ap (λ (n : ℕ). take n line) (add-one k) ∙ take-suc line k 0 h))
 
 -- ---- still right
 
@@ -122,21 +115,21 @@ module _ {ws r : List ℕ} {low high end : ℕ} (b : Between ws low high) (g : B
   pub first_word : {end' : ℕ} {R : List ℕ} → Told (from_bit (get_or ws (low / 64) 0) (low % 64)) (low / 64 * 64) end r R end' → Spelling ws r R ((low / 64 + 1) * 64) end'
   first_word t = spell_more start w (low / 64 * 64) inside (members_on ws low f) t
 
-module _ {ws r R : List ℕ} {low high k end : ℕ} (b : Between ws low high) (s : Spelling ws r R ((k + 1) * 64) end) where
+module _ {ws r R : List ℕ} {low high k end : ℕ} (b : Between ws low high) (s : Spelling ws r R (k * 64) end) where
   -- a word more
-  module _ (h : k < high / 64) where
-    more : (k + 1 + 1) * 64 ≤ room ws
+  module _ (h : k < high / 64 + 1) where
+    more : (k + 1) * 64 ≤ room ws
     more = let i = high_word b in omega arith
 
-    pub next_room : end + length (member_bytes (in_word (get_or ws (k + 1) 0) ((k + 1) * 64))) ≤ length R
-    next_room = spell_room s (get_or ws (k + 1) 0) ((k + 1) * 64) more (members_word ws (k + 1))
+    pub next_room : end + length (member_bytes (in_word (get_or ws k 0) (k * 64))) ≤ length R
+    next_room = spell_room s (get_or ws k 0) (k * 64) more (members_word ws k)
 
-    pub next_word : {end' : ℕ} {R' : List ℕ} → Told (get_or ws (k + 1) 0) ((k + 1) * 64) end R R' end' → Spelling ws r R' ((k + 1 + 1) * 64) end'
-    next_word t = spell_more s (get_or ws (k + 1) 0) ((k + 1) * 64) more (members_word ws (k + 1)) t
+    pub next_word : {end' : ℕ} {R' : List ℕ} → Told (get_or ws k 0) (k * 64) end R R' end' → Spelling ws r R' ((k + 1) * 64) end'
+    next_word t = spell_more s (get_or ws k 0) (k * 64) more (members_word ws k) t
 
   -- no word more, in a room that the word of event c was the first to be written to
-  pub no_word : k ≤ high / 64 → high / 64 ≤ k → {r₀ : List ℕ} {c end₀ : ℕ} → Spelling ws r₀ r c end₀ → Spelled ws r₀ R (room ws) end
-  no_word u h t = let i = high_word b in spelled_on t.so_far_lem t.within (spell_end s (all_members b {k = k + 1} (omega arith) (omega arith)))
+  pub no_word : k ≤ high / 64 + 1 → high / 64 + 1 ≤ k → {r₀ : List ℕ} {c end₀ : ℕ} → Spelling ws r₀ r c end₀ → Spelled ws r₀ R (room ws) end
+  no_word u h t = let i = high_word b in spelled_on t.so_far_lem t.within (spell_end s (all_members b {k = k} (omega arith) (omega arith)))
 
 -- ---- the bytes of members by two counts
 
@@ -230,7 +223,7 @@ module _ {ws line : List ℕ} {at low high : ℕ} (b : Between ws low high) (l :
       pub copied : length left₁ ≡ length left → Begun ws low left₁ at
       copied m = let f = members_fit ws left e h in record { fits = omega arith; begins = spelled_again (line_copied l left q c) }
 
-      pub cut_done : {left₂ : List ℕ} {end : ℕ} → Spelled ws left₁ left₂ (room ws) end → Laid (set_bytes (room ws) (set_of ws)) left (end + 1) (set left₂ end 0x22)
+      pub cut_done : {left₂ : List ℕ} {end : ℕ} → Spelled ws left₁ left₂ (room ws) end → Laid (set_bytes (room ws) (set_of ws)) left (Some (end + 1)) (set left₂ end 0x22)
       cut_done s = let r = b.rise in let i = b.inside in laid_cut ws left e h (spelled_on (line_copied l left q c) (omega arith) s)
 
   pub line_next : {line' : List ℕ} {end : ℕ} → length line' ≡ length line → Spelled ws line line' (room ws) end → Line ws (room ws) line'

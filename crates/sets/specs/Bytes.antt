@@ -1,10 +1,9 @@
 -- The bytes of a set in words.
 -- Assumes nothing.
-use Rattle.std.specs.Prelude.{◌≡◌, List, ◌++◌, ℕ, ◌+◌, ◌-◌, ◌≤◌, ◌<◌, eqb, length, take, drop}
-use Rattle.paper.specs.Limits.{wide_from}
+use Rattle.std.specs.Prelude.{◌≡◌, Option, Some, None, List, ◌++◌, ℕ, ◌+◌, ◌-◌, ◌≤◌, ◌<◌, eqb, length, take, drop}
 use Rattle.paper.specs.Lists.{keep, up_to}
 use Rattle.paper.specs.Sets.{Set, members}
-use Rattle.paper.specs.Listing.{member_bytes}
+use Rattle.paper.specs.Listing.{member, member_bytes}
 use Rattle.sets.specs.Words.{bit, set_of, room}
 
 -- the set of a word whose bit 0 is event m, and its members
@@ -14,12 +13,10 @@ word_set w m i = eqb (bit w (i - m)) 1
 unfoldable pub in_word : ℕ → ℕ → List ℕ
 in_word w m = keep (word_set w m) (up_to 64 m)
 
--- the numbers of a word's events, from m on, take one byte, or two
-abbrev pub OneByte : ℕ → Type 0
-OneByte m = m + 64 ≤ wide_from
-
-abbrev pub TwoBytes : ℕ → Type 0
-TwoBytes m = (wide_from ≤ m) × (m + 64 ≤ 65536)
+-- the bytes of member e were written behind `at` bytes of a room r; they end at `end`
+pub record Put (e at : ℕ) (r r' : List ℕ) (end : ℕ) : Type 0 where
+  pub ends : end ≡ at + length (member e)
+  pub bytes : r' ≡ take at r ++ (member e ++ drop end r)
 
 -- those of a word's members were written behind `at` bytes of a room r; they end at `end`
 pub record Told (w m at : ℕ) (r r' : List ℕ) (end : ℕ) : Type 0 where
@@ -36,7 +33,7 @@ pub record Begun (ws : List ℕ) (b : ℕ) (r : List ℕ) (end : ℕ) : Type 0 w
   pub fits : length (member_bytes (members (room ws) (set_of ws))) ≤ length r
   pub begins : Spelled ws r r b end
 
--- the bytes of a cut were written at the front of a room, r of them, where they fit; r is 0 where they do not
-pub record Laid (cut room : List ℕ) (r : ℕ) (room' : List ℕ) : Type 0 where
-  pub short : r ≡ 0 → (length room < length cut) × (room' ≡ room)
-  pub laid : 0 < r → (r ≡ length cut) × (r ≤ length room) × (room' ≡ cut ++ drop r room)
+-- the bytes of a cut were written at the front of a room, r of them, where they fit
+abbrev pub Laid : List ℕ → List ℕ → Option ℕ → List ℕ → Type 0
+Laid cut room None room' = (length room < length cut) × (room' ≡ room)
+Laid cut room (Some r) room' = (r ≡ length cut) × (r ≤ length room) × (room' ≡ cut ++ drop r room)

@@ -1,11 +1,11 @@
 // A set of events in words of 64 bits: bit i % 64 of word i / 64 is set exactly if event i is a member.
 #![tactic(auto)]
 
-ghost use Rattle.std.specs.Prelude.{◌≡◌, true, false, ◌++◌, ◌+◌, ◌*◌, ◌≤◌, ◌<◌, length, replicate, take, drop};
+ghost use Rattle.std.specs.Prelude.{◌≡◌, true, false, ◌++◌, ◌+◌, ◌*◌, ◌≤◌, ◌<◌, length, replicate, take, drop, OnSome};
 ghost use Rattle.paper.specs.Sets.{put, members};
-ghost use Rattle.paper.specs.Listing.{member_bytes, set_bytes};
+ghost use Rattle.paper.specs.Listing.{member, member_bytes, set_bytes};
 ghost use Rattle.sets.specs.Words.{words, set_of, room, Few, size_of, Trail, Lowest};
-ghost use Rattle.sets.specs.Bytes.{in_word, OneByte, TwoBytes, Told, Spelled, Begun, Laid};
+ghost use Rattle.sets.specs.Bytes.{in_word, Put, Told, Spelled, Begun, Laid};
 ghost use Rattle.sets.specs.Beside.{Between, Ahead, Line, Counted, bytes_by};
 
 // A set that can hold every event of a tree has so many words, and holds so many events.
@@ -24,7 +24,7 @@ fn low_bit(w: u64) -> usize
     requires { 0 < w }
     ensures { Trail w 64 result }
 {
-    u64::trailing_zeros(w) as usize
+    w.trailing_zeros() as usize
 }
 
 // The empty set.
@@ -41,7 +41,7 @@ pub fn add(ws: &mut [u64], i: usize)
 {
     let new = 1u64 << (i % 64);
     let k = i / 64;
-    ws[k] = ws[k] | new;
+    ws[k] |= new;
 }
 
 // Takes member `i` out.
@@ -51,7 +51,7 @@ pub fn remove(ws: &mut [u64], i: usize)
 {
     let old = 1u64 << (i % 64);
     let k = i / 64;
-    ws[k] = ws[k] ^ old;
+    ws[k] ^= old;
 }
 
 // The lowest member in the words from `from` on, or the room where there is none.
@@ -59,15 +59,13 @@ fn lowest_word(ws: &[u64], from: usize) -> usize
     requires { Few ws.now × (from ≤ length ws.now) }
     ensures { Lowest (set_of ws.now) (room ws.now) (from * 64) result }
 {
-    let mut k = from;
-    while k < ws.len() {
+    for k in from..ws.len() {
         let v = ws[k];
         if v != 0 {
             return k * 64 + low_bit(v);
         }
-        k += 1;
     }
-    k * 64
+    ws.len() * 64
 }
 
 // The lowest member from event `i` on, or the room where there is none.
@@ -92,12 +90,11 @@ fn recount(ws: &[u64], ahead: &mut [usize], low: usize, high: usize) -> usize
     requires { Few ws.now × Between ws.now low high × Ahead ws.now low ahead.old }
     ensures { (result ≡ size_of ws.now) × Ahead ws.now high ahead.new }
 {
-    let mut k = low / 64;
-    let mut n = ahead[k] + u64::count_ones(ws[k]) as usize;
-    while k < high / 64 {
-        k += 1;
+    let first = low / 64;
+    let mut n = ahead[first] + ws[first].count_ones() as usize;
+    for k in first + 1..high / 64 + 1 {
         ahead[k] = n;
-        n += u64::count_ones(ws[k]) as usize;
+        n += ws[k].count_ones() as usize;
     }
     n
 }
@@ -113,58 +110,37 @@ fn bytes_of(ahead: &[usize], count: usize, b: usize) -> usize
     3 * count - ahead[WIDE]
 }
 
-// Writes the members that a word tells, of the 64 events from `base` on, behind `at` bytes of the line and of the room that is left; answers where they end.
-// Their numbers take one byte.
-fn write_narrow(w: u64, base: usize, line: &mut [u8], left: &mut [u8], at: usize) -> usize
-    requires { OneByte base × (at + length (member_bytes (in_word w base)) ≤ length line.old) × (at + length (member_bytes (in_word w base)) ≤ length left.old) }
-    ensures { Told w base at line.old line.new result × Told w base at left.old left.new result }
+// Writes the bytes of member `e` at `at`; answers where they end.
+fn put_member(e: usize, room: &mut [u8], at: usize) -> usize
+    requires { (e < 65536) × (at + length (member e) ≤ length room.old) }
+    ensures { Put e at room.old room.new result }
 {
-    let mut v = w;
-    let mut end = at;
-    while v != 0 {
-        let e = (base + low_bit(v)) as u8;
-        line[end] = 0x21;
-        line[end + 1] = e;
-        left[end] = 0x21;
-        left[end + 1] = e;
-        end += 2;
-        v = v & (v - 1);
+    let low = (e % 256) as u8;
+    if e < paper::WIDE_FROM as usize {
+        room[at] = 0x21;
+        room[at + 1] = low;
+        return at + 2;
     }
-    end
+    room[at] = 0x23;
+    room[at + 1] = low;
+    room[at + 2] = (e / 256) as u8;
+    at + 3
 }
 
-// The same of numbers that take two bytes.
-fn write_wide(w: u64, base: usize, line: &mut [u8], left: &mut [u8], at: usize) -> usize
-    requires { TwoBytes base × (at + length (member_bytes (in_word w base)) ≤ length line.old) × (at + length (member_bytes (in_word w base)) ≤ length left.old) }
-    ensures { Told w base at line.old line.new result × Told w base at left.old left.new result }
-{
-    let mut v = w;
-    let mut end = at;
-    while v != 0 {
-        let e = base + low_bit(v);
-        let low = (e % 256) as u8;
-        let high = (e / 256) as u8;
-        line[end] = 0x23;
-        line[end + 1] = low;
-        line[end + 2] = high;
-        left[end] = 0x23;
-        left[end + 1] = low;
-        left[end + 2] = high;
-        end += 3;
-        v = v & (v - 1);
-    }
-    end
-}
-
-// The same of word `k`.
+// Writes the members that word `k` tells behind `at` bytes of the line and of the room that is left; answers where they end.
 fn write_word(w: u64, k: usize, line: &mut [u8], left: &mut [u8], at: usize) -> usize
     requires { (k < 1024) × (at + length (member_bytes (in_word w (k * 64))) ≤ length line.old) × (at + length (member_bytes (in_word w (k * 64))) ≤ length left.old) }
     ensures { Told w (k * 64) at line.old line.new result × Told w (k * 64) at left.old left.new result }
 {
-    if k < WIDE {
-        return write_narrow(w, k * 64, line, left, at);
+    let mut v = w;
+    let mut end = at;
+    while v != 0 {
+        let e = k * 64 + low_bit(v);
+        put_member(e, line, end);
+        end = put_member(e, left, end);
+        v &= v - 1;
     }
-    write_wide(w, k * 64, line, left, at)
+    end
 }
 
 // Writes the members from event `low` on, of which none is above event `high`, behind those below it in the line and in the room that is left: there they are
@@ -180,10 +156,15 @@ fn write_from(
     requires { Few ws.now × Between ws.now low high × Begun ws.now low line.old at × Begun ws.now low left.old at }
     ensures { Spelled ws.now line.old line.new (room ws.now) result × Spelled ws.now left.old left.new (room ws.now) result }
 {
-    let mut k = low / 64;
-    let mut end = write_word((ws[k] >> (low % 64)) << (low % 64), k, line, left, at);
-    while k < high / 64 {
-        k += 1;
+    let first = low / 64;
+    let mut end = write_word(
+        (ws[first] >> (low % 64)) << (low % 64),
+        first,
+        line,
+        left,
+        at,
+    );
+    for k in first + 1..high / 64 + 1 {
         end = write_word(ws[k], k, line, left, end);
     }
     end
@@ -194,14 +175,10 @@ fn copy(line: &[u8], left: &mut [u8], size: usize)
     requires { (size ≤ length line.now) × (size ≤ length left.old) }
     ensures { left.new ≡ take size line.now ++ drop size left.old }
 {
-    let mut k = 0;
-    while k < size {
-        left[k] = line[k];
-        k += 1;
-    }
+    left[..size].copy_from_slice(&line[..size]);
 }
 
-// Writes a cut at the front of the room that is left, if it fits there, and says how many bytes it took: 0 where it does not fit. Ones give its size, below
+// Writes a cut at the front of the room that is left, if it fits there, and says how many bytes it took. Ones give its size, below
 // event 256 and from there on, and trailing zeros each member. Only the events from `low` to `high` may have changed since the cut before: ones are counted again
 // in their words alone, and the members below `low`, which are `kept`, have their bytes in the line.
 pub fn write_cut(
@@ -212,18 +189,18 @@ pub fn write_cut(
     ahead: &mut [usize],
     line: &mut [u8],
     left: &mut [u8],
-) -> usize
+) -> Option<usize>
     requires { Few ws.now × Between ws.now low high × Ahead ws.now low ahead.old × Line ws.now low line.old × (kept ≡ length (members low (set_of ws.now))) }
-    ensures { Laid (set_bytes (room ws.now) (set_of ws.now)) left.old result left.new × Ahead ws.now high ahead.new × (0 < result → Line ws.now (room ws.now) line.new) }
+    ensures { Laid (set_bytes (room ws.now) (set_of ws.now)) left.old result left.new × Ahead ws.now high ahead.new × OnSome result (Line ws.now (room ws.now) line.new) }
 {
     let size = recount(ws, ahead, low, high);
     let bytes = bytes_of(ahead, size, high + 1) + 1;
     if left.len() < bytes {
-        return 0;
+        return None;
     }
     let at = bytes_of(ahead, kept, low);
     copy(line, left, at);
     let end = write_from(ws, low, high, line, left, at);
     left[end] = 0x22;
-    end + 1
+    Some(end + 1)
 }

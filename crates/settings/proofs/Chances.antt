@@ -12,10 +12,14 @@ use lib.Seq.{ext_get_or, get_or-set_same, get_or-set_other}
 use borrow.Author.Tests.{ltb-true, ltb-false}
 use Rattle.paper.specs.Limits.{limits, billion}
 use Rattle.paper.specs.Answers.{Verdict}
+use Rattle.paper.specs.Refusals.{number}
+use Rattle.paper.specs.declared.refusal.Refused.{Refused}
+use Rattle.paper.proofs.Refusals.{number_above}
 use Rattle.paper.specs.Store.{Settings, state_of, accepted, refused_at, judge_store, settings_of}
 use Rattle.paper.specs.Forcing.{chance_as, chances_from, chances_under}
 use Rattle.settings.specs.States.{Gives, ChancesForced, bad_store, too_many, done}
 use Rattle.settings.proofs.Judged.{number_zero}
+use Rattle.settings.proofs.Reading.{gives}
 
 -- ---- one chance
 
@@ -78,19 +82,21 @@ changing_end {s} {C} {C'} {e} w l = ext_get_or 0 C' (chances_under s C) (w.long 
 
 -- ---- the call
 
-pub judged_good : (n : ℕ) (store : List ℕ) {k p : ℕ} → Gives (judge_store n store) k p → k ≡ 0 → judge_store n store ≡ accepted
-judged_good n store g z = number_zero n store (sym g.number_is ∙ z)
+pub judged_good : (n : ℕ) (store : List ℕ) → accepted ≡ judge_store n store → judge_store n store ≡ accepted
+judged_good n store g = number_zero n store (ap (λ v. v.number) (sym g))
 
 module _ {store : List ℕ} {asked : ℕ} {C : List ℕ} where
-  pub forced_bad : {n p : ℕ} → Gives (judge_store (length C) store) n p → n ≢ 0 → ChancesForced store asked C C n p
-  forced_bad g z = bad_store (λ e. z (g.number_is ∙ e)) g refl
+  pub forced_bad : (w : Refused) → refused_at (number w.why) w.place ≡ judge_store (length C) store → ChancesForced store asked C C (number w.why) w.place
+  forced_bad w g =
+      let h = number_above w.why in
+      bad_store (λ e. let z = ap (λ v. v.number) g ∙ e in absurd (omega arith)) (gives g) refl
 
-  pub forced_many : {n p : ℕ} → Gives (judge_store (length C) store) n p → n ≡ 0 → limits.events < length C → ChancesForced store asked C C 9 0
-  forced_many g z l = too_many (judged_good (length C) store g z) l (record { number_is = refl; place_is = refl }) refl
+  pub forced_many : accepted ≡ judge_store (length C) store → limits.events < length C → ChancesForced store asked C C 9 0
+  forced_many g l = too_many (judged_good (length C) store g) l (record { number_is = refl; place_is = refl }) refl
 
-  pub forced_done : {n p : ℕ} → Gives (judge_store (length C) store) n p → n ≡ 0 → length C ≤ limits.events
-      → {s : Settings} {C' : List ℕ} → s ≡ settings_of asked store → C' ≡ chances_under s C → ChancesForced store asked C C' n p
-  forced_done {n} {p} g z l q e = done (judged_good (length C) store g z) l (subst (λ v. Gives v n p) (judged_good (length C) store g z) g) (e ∙ ap (λ x. chances_under x C) q)
+  pub forced_done : accepted ≡ judge_store (length C) store → length C ≤ limits.events
+      → {s : Settings} {C' : List ℕ} → s ≡ settings_of asked store → C' ≡ chances_under s C → ChancesForced store asked C C' 0 0
+  forced_done g l q e = done (judged_good (length C) store g) l (gives refl) (e ∙ ap (λ x. chances_under x C) q)
 
 -- ONE OUTCOME
 pub record SameChances (C₁ C₂ : List ℕ) (n₁ n₂ p₁ p₂ : ℕ) : Type 0 where

@@ -3,7 +3,7 @@
 use Rattle.std.specs.Prelude.{◌≡◌, ◌≢◌, cond, List, [], ◌∷◌, ℕ, ◌≤◌, ◌<◌, leb, length, get_or, set}
 use Rattle.paper.specs.Limits.{limits}
 use Rattle.paper.specs.Answers.{Verdict}
-use Rattle.paper.specs.Store.{State, free, Settings, state_of, Entry, accepted, refused_at, judge_store, settings_of}
+use Rattle.paper.specs.Store.{free, Settings, state_of, Entry, accepted, refused_at, judge_store, settings_of}
 use Rattle.paper.specs.Forcing.{chances_under}
 
 abbrev pub all_free : Settings

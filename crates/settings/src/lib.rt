@@ -3,18 +3,13 @@
 
 ghost use Rattle.std.specs.Prelude.{◌≡◌, ◌+◌, ◌*◌, ◌≤◌, ◌<◌, length};
 ghost use Rattle.paper.specs.Limits.{limits, billion};
+ghost use Rattle.paper.specs.Refusals.{number_of, verdict_of};
 ghost use Rattle.paper.specs.Store.{entry_long, entry_at, fault_of, accepted, judge_store, settings_of, state_of};
 ghost use Rattle.paper.specs.Forcing.{chance_as, chances_under};
-ghost use Rattle.settings.specs.States.{states_in, states_after, Gives, ChancesForced};
+ghost use Rattle.settings.specs.States.{states_in, states_after, ChancesForced};
 
+use paper::refusal::{Refusal, Refused};
 use paper::{BILLION, EVENTS};
-
-// The number of a store, 0, 24 or 13, and the place.
-#[derive(Clone, Copy)]
-pub struct Judgement {
-    pub number: u8,
-    pub place: usize,
-}
 
 // A record's bytes.
 const ENTRY: usize = 6;
@@ -25,7 +20,7 @@ const KIND: u8 = 0x31;
 fn two(a: u8, b: u8) -> u16
     ensures { result ≡ a + 256 * b }
 {
-    (a as u16) + 256 * (b as u16)
+    u16::from(a) + 256 * u16::from(b)
 }
 
 // The edition, and the event, of the record at `at`.
@@ -43,50 +38,44 @@ fn event_at(store: &[u8], at: usize) -> u16
     two(store[at + 3], store[at + 4])
 }
 
-// The number that the record at `at` is refused with, after one of edition `last`; 0: none.
-fn fault_at(store: &[u8], at: usize, events: usize, last: u16) -> u8
+// Why the record at `at` is refused, after one of edition `last`, if it is.
+fn fault_at(store: &[u8], at: usize, events: usize, last: u16) -> Result<(), Refusal>
     requires { at + entry_long ≤ length store.now }
-    ensures { result ≡ fault_of events last (entry_at store.now at) }
+    ensures { number_of result ≡ fault_of events last (entry_at store.now at) }
 {
     if store[at] != KIND {
-        return 24;
+        return Err(Refusal::Store);
     }
     if 2 < store[at + 5] {
-        return 24;
+        return Err(Refusal::Store);
     }
     if edition_at(store, at) < last {
-        return 24;
+        return Err(Refusal::Store);
     }
-    if (event_at(store, at) as usize) < events {
-        return 0;
+    if usize::from(event_at(store, at)) < events {
+        return Ok(());
     }
-    13
+    Err(Refusal::Beyond)
 }
 
 // Judges the store of a tree of so many events.
-pub fn judge(store: &[u8], events: usize) -> Judgement
-    ensures { Gives (judge_store events store.now) result.number result.place }
+pub fn judge(store: &[u8], events: usize) -> Result<(), Refused>
+    ensures { verdict_of result ≡ judge_store events store.now }
 {
-    let mut at = 0;
     let mut last = 0;
-    while at < store.len() {
+    for at in (0..store.len()).step_by(ENTRY) {
         if store.len() - at < ENTRY {
-            return Judgement {
-                number: 24,
+            return Err(Refused {
+                why: Refusal::Store,
                 place: at,
-            };
+            });
         }
-        let number = fault_at(store, at, events, last);
-        if number != 0 {
-            return Judgement { number, place: at };
+        match fault_at(store, at, events, last) {
+            Ok(()) => last = edition_at(store, at),
+            Err(why) => return Err(Refused { why, place: at }),
         }
-        last = edition_at(store, at);
-        at += ENTRY;
     }
-    Judgement {
-        number: 0,
-        place: 0,
-    }
+    Ok(())
 }
 
 // What the record at `at` says of its event, if it is of the asked edition or one before.
@@ -98,7 +87,7 @@ fn take_entry(store: &[u8], at: usize, asked: u16, states: &mut [u8; EVENTS])
     if asked < edition_at(store, at) {
         return;
     }
-    let e = event_at(store, at) as usize;
+    let e = usize::from(event_at(store, at));
     states[e] = store[at + 5];
 }
 
@@ -109,10 +98,8 @@ pub fn states_under(store: &[u8], events: usize, asked: u16) -> [u8; EVENTS]
     ensures { states_in result ≡ settings_of asked store.now }
 {
     let mut states = [0u8; EVENTS];
-    let mut at = 0;
-    while at < store.len() {
+    for at in (0..store.len()).step_by(ENTRY) {
         take_entry(store, at, asked, &mut states);
-        at += ENTRY;
     }
     states
 }
@@ -135,29 +122,24 @@ fn force_chances(chances: &mut [u32], states: &[u8])
     requires { length chances.old ≤ length states.now }
     ensures { chances.new ≡ chances_under (states_in states.now) chances.old }
 {
-    let mut e = 0;
-    while e < chances.len() {
+    for e in 0..chances.len() {
         chances[e] = chance_as(chances[e], states[e]);
-        e += 1;
     }
 }
 
 // Makes the chances of all events of a tree those under an edition: D where an event is forced failed, 0 where it is forced sound.
-pub fn chances_under(store: &[u8], edition: u16, chances: &mut [u32]) -> Judgement
-    ensures { ChancesForced store.now edition chances.old chances.new result.number result.place }
+pub fn chances_under(store: &[u8], edition: u16, chances: &mut [u32]) -> Result<(), Refused>
+    ensures { ChancesForced store.now edition chances.old chances.new (verdict_of result).number (verdict_of result).place }
 {
     let events = chances.len();
-    let j = judge(store, events);
-    if j.number != 0 {
-        return j;
-    }
+    judge(store, events)?;
     if EVENTS < events {
-        return Judgement {
-            number: 9,
+        return Err(Refused {
+            why: Refusal::Length,
             place: 0,
-        };
+        });
     }
     let states = states_under(store, events, edition);
     force_chances(chances, &states);
-    j
+    Ok(())
 }

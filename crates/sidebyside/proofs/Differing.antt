@@ -6,6 +6,7 @@ use mathlib.Core.Bool.{Bool, true, false, cond, not, true≢false, false≢true}
 use mathlib.Core.List.{List, [], ◌∷◌, ◌++◌, append_assoc, append-nil, List-discrete}
 use Prim.Native.Nat.{ℕ, ◌+◌}
 use native.Mathlib.Decide.{ℕ_discrete}
+use Rattle.std.specs.Prelude.{Ok, Err}
 use native.Mathlib.Omega.{arith}
 use lib.ListN.{length, length-append}
 use Rattle.paper.specs.Lists.{In, keep}
@@ -14,12 +15,11 @@ use Rattle.paper.specs.Listing.{cut_bytes}
 use Rattle.paper.specs.GoodListing.{Good}
 use Rattle.algebra.proofs.Lists.{bool_iff, in_has, has_in}
 use Rattle.sidebyside.specs.Members.{Lt, Leads, cuts_bytes, Held}
-use Rattle.sidebyside.specs.Finding.{Finds}
+use Rattle.sidebyside.specs.Finding.{Finds, shown}
 use Rattle.sidebyside.specs.Merging.{Tallies, has_cut, gone_of, kept_of}
 use Rattle.sidebyside.specs.Judge.{cuts_of, before, judge}
 use Rattle.sidebyside.specs.Differing.{differ, difference_of, among, gone_by, kept_by, numbers_of}
-use Rattle.sidebyside.specs.declared.Difference.TheVariants.{OfYesterday, OfToday, FaultYesterday, FaultToday}
-use Rattle.sidebyside.specs.declared.Numbers.TheVariants.{RefusedYesterday, RefusedToday, Counted}
+use Rattle.sidebyside.specs.declared.Side.TheVariants.{Yesterday, Today}
 use Rattle.sidebyside.proofs.Lt.{lt_total, rows_split}
 use Rattle.sidebyside.proofs.Coding.{cuts_nil, cuts_cons, cuts_append}
 use Rattle.sidebyside.proofs.Telling.{held_good}
@@ -46,7 +46,7 @@ one_more c ps e =
     omega (arith, a, b, e)
 
 -- behind the same cuts
-differs : (ps ls ms : List (List ℕ)) {y t : List ℕ} {at : ℕ} → at ≡ length (cuts_bytes ps) → Held y (ps ++ ls) → Held t (ps ++ ms) → Finds y t (differ at ls ms)
+differs : (ps ls ms : List (List ℕ)) {y t : List ℕ} {at : ℕ} → at ≡ length (cuts_bytes ps) → Held y (ps ++ ls) → Held t (ps ++ ms) → Finds y t (Ok (differ at ls ms))
 unfolding differ
 differs ps [] [] e h k = (held_good h, h.bytes ∙ sym k.bytes)
 differs ps (c ∷ ls) [] e h k = shows_at c ps ls [] e refl h k (first_alone c ls (first_leads c ps ls h))
@@ -55,8 +55,8 @@ differs ps (c ∷ ls) (d ∷ ms) {y} {t} {at} e h k = go (before c d) refl (befo
     (λ same. differs (ps ++ (c ∷ [])) ls ms (one_more c ps e) (subst (λ (x : List (List ℕ)). Held y x) (sym (append_assoc ps (c ∷ []) ls)) h)
     (subst (λ (x : List (List ℕ)). Held t x) (sym (append_assoc ps (c ∷ []) ms)) (subst (λ (x : List ℕ). Held t (ps ++ (x ∷ ms))) (sym same) k)))
   where
-    go : (b : Bool) → before c d ≡ b → (a : Bool) → before d c ≡ a → (c ≡ d → Finds y t (differ (at + length (cut_bytes c)) ls ms))
-        → Finds y t (cond b (OfYesterday at (at + length (cut_bytes c))) (cond a (OfToday at (at + length (cut_bytes d))) (differ (at + length (cut_bytes c)) ls ms)))
+    go : (b : Bool) → before c d ≡ b → (a : Bool) → before d c ≡ a → (c ≡ d → Finds y t (Ok (differ (at + length (cut_bytes c)) ls ms)))
+        → Finds y t (Ok (cond b (shown Yesterday at (at + length (cut_bytes c))) (cond a (shown Today at (at + length (cut_bytes d))) (differ (at + length (cut_bytes c)) ls ms))))
     go true p a q r = shows_at c ps ls (d ∷ ms) e refl h k (first_lower c d ls ms (first_leads c ps ls h) (first_leads d ps ms k) (before_so c d p))
     go false p true q r = shows_at d ps ms (c ∷ ls) e refl k h (first_lower d c ms ls (first_leads d ps ms k) (first_leads c ps ls h) (before_so d c q))
     go false p false q r = r (same_cut c d p q)
@@ -69,7 +69,7 @@ pub finds_computed : (y t : List ℕ) → Finds y t (difference_of y t)
 unfolding difference_of
 finds_computed y t = go (judge y) refl (judge t) refl
   where
-    go : (a : Bool) → judge y ≡ a → (b : Bool) → judge t ≡ b → Finds y t (cond a (cond b (differ 0 (cuts_of y) (cuts_of t)) FaultToday) FaultYesterday)
+    go : (a : Bool) → judge y ≡ a → (b : Bool) → judge t ≡ b → Finds y t (cond a (cond b (Ok (differ 0 (cuts_of y) (cuts_of t))) (Err Today)) (Err Yesterday))
     go false p b q = judge_bad y p
     go true p false q = (judge_so y p, judge_bad t q)
     go true p true q = differs [] (cuts_of y) (cuts_of t) (ap length (sym cuts_nil)) (judge_held y p) (judge_held t q)
@@ -108,7 +108,7 @@ unfolding numbers_of
 tallies_computed y t = go (judge y) refl (judge t) refl
   where
     go : (a : Bool) → judge y ≡ a → (b : Bool) → judge t ≡ b
-        → Tallies y t (cond a (cond b (Counted (gone_by (cuts_of y) (cuts_of t)) (gone_by (cuts_of t) (cuts_of y)) (kept_by (cuts_of y) (cuts_of t))) RefusedToday) RefusedYesterday)
+        → Tallies y t (cond a (cond b (Ok (record { gone = gone_by (cuts_of y) (cuts_of t); new = gone_by (cuts_of t) (cuts_of y); kept = kept_by (cuts_of y) (cuts_of t) })) (Err Today)) (Err Yesterday))
     go false p b q = judge_bad y p
     go true p false q = (judge_so y p, judge_bad t q)
     go true p true q = held_counts (judge_held y p) (judge_held t q) (gone_by_lem (cuts_of y) (cuts_of t)) (gone_by_lem (cuts_of t) (cuts_of y)) (kept_by_lem (cuts_of y) (cuts_of t))

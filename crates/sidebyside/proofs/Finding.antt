@@ -3,7 +3,8 @@
 use mathlib.Core.Path.{◌≡◌, refl, sym, ap, ◌∙◌, subst}
 use mathlib.Core.Logic.{◌⊎◌, inl, inr}
 use mathlib.Core.List.{List, [], ◌∷◌, ◌++◌, map}
-use Prim.Native.Nat.{ℕ, ◌+◌, ◌-◌, ◌<◌}
+use Prim.Native.Nat.{ℕ, ◌+◌, ◌<◌}
+use Rattle.std.specs.Prelude.{Option, Ok}
 use native.Mathlib.Omega.{arith}
 use lib.ListN.{length, drop}
 use Rattle.paper.specs.Limits.{limits}
@@ -19,7 +20,7 @@ use Rattle.sidebyside.specs.OneCut.{Ends, Follows, Orders}
 use Rattle.sidebyside.specs.Walking.{Standing, Walked}
 use Rattle.sidebyside.specs.Finding.{Finds, Parted, FirstCut}
 use Rattle.sidebyside.specs.declared.Difference.{Difference}
-use Rattle.sidebyside.specs.declared.cut.Earlier.TheVariants.{First, Same, Second}
+use Rattle.std.specs.declared.cmp.Ordering.TheVariants.{Less, Equal, Greater}
 use Rattle.sidebyside.proofs.Lt.{lt_irrefl, leads_first, leads_out, rows_split}
 use Rattle.sidebyside.proofs.Sets.{members_of, lt_before}
 use Rattle.sidebyside.proofs.Telling.{held_good, front_bytes}
@@ -129,9 +130,8 @@ module _ {y t : List ℕ} {at end stop : ℕ} (f : Along y t at end stop) where
   pub along_yours : Walked t at stop
   along_yours = record { cuts = f.cuts; standing = f.yours }
 
-  pub parted : (found : Difference) → (Good y → Good t → Finds y t found) → {at' end' stop' : ℕ} {found' : Difference}
-      → (at' ≡ at) × (end' ≡ end) × (stop' ≡ stop) × (found' ≡ found) → Parted y t at' end' stop' found'
-  parted found g (p, q, r, s) = rw (p, q, r, s) (record { mine = along_mine; yours = along_yours; shows = g })
+  pub parted : {found found' : Option Difference} → (Good y → Good t → Finds y t (Ok found)) → found' ≡ found → Parted y t at end stop found'
+  parted g e = rw e (record { mine = along_mine; yours = along_yours; shows = g })
 
   pub along_equal : end ≡ 0 → stop ≡ 0 → Good y → Good t → Good y × (y ≡ t)
   along_equal p q g h =
@@ -165,7 +165,7 @@ module _ {y t : List ℕ} {at end stop : ℕ} (f : Along y t at end stop) where
       abbrev d : List ℕ
       d = (here f.yours q).cut
 
-      pub along_lower : Orders (drop at y) (drop at t) First → Good y → Good t → Shows y t at end
+      pub along_lower : Orders (drop at y) (drop at t) Less → Good y → Good t → Shows y t at end
       along_lower o g u =
           let (ls, k, l) = mine_left g in
           let (ms, j) = good_split f.yours.passed u in
@@ -174,7 +174,7 @@ module _ {y t : List ℕ} {at end stop : ℕ} (f : Along y t at end stop) where
           shows ls (d ∷ ds) k j' (first_lower c d ls ds l (rows_split f.cuts (d ∷ ds) j'.rows).0.0
           (o c d (drop end y) (drop stop t) (here f.mine h).is.0 (here f.yours q).is.0 (here f.mine h).bytes (here f.yours q).bytes))
 
-      pub along_same : Orders (drop at y) (drop at t) Same → {e r : ℕ} → Follows y at end e → Follows t at stop r → Along y t end e r
+      pub along_same : Orders (drop at y) (drop at t) Equal → {e r : ℕ} → Follows y at end e → Follows t at stop r → Along y t end e r
       along_same o {e} {r} v w =
           let p : c ≡ d = o c d (drop end y) (drop stop t) (here f.mine h).is.0 (here f.yours q).is.0 (here f.mine h).bytes (here f.yours q).bytes in
           let a = cut_long f.mine h in
@@ -190,5 +190,5 @@ module _ {y t : List ℕ} {at end stop : ℕ} (f : Along y t at end stop) where
           }
 
 -- the second stands first: the first of the two seen from the other side
-pub orders_flip : (t u : List ℕ) → Orders t u Second → Orders u t First
+pub orders_flip : (t u : List ℕ) → Orders t u Greater → Orders u t Less
 orders_flip t u o es fs rest rest' r s p q = o fs es rest' rest s r q p

@@ -17,7 +17,7 @@ use Rattle.sidebyside.specs.Members.{RisingFrom, Lt, Rows, Held}
 use Rattle.sidebyside.specs.OneCut.{Ends, Follows, Orders}
 use Rattle.sidebyside.specs.Walking.{Standing, Walked, Ahead}
 use Rattle.sidebyside.specs.Merging.{has_cut, gone_of, kept_of, Adds, Merging}
-use Rattle.sidebyside.specs.declared.cut.Earlier.TheVariants.{First, Same, Second}
+use Rattle.std.specs.declared.cmp.Ordering.TheVariants.{Less, Equal, Greater}
 use Rattle.sidebyside.proofs.Lt.{leads_first, leads_out, rows_split}
 use Rattle.sidebyside.proofs.Telling.{good_held, held_good, held_once}
 use Rattle.sidebyside.proofs.Walking.{passed_once, walk_start, walk_over, here, walk_head, walk_next}
@@ -150,7 +150,7 @@ module _ {y t : List ℕ} {i e j f gone new kept : ℕ} (g : Merging y t i e j f
     behind : (ls : List (List ℕ)) → g.ps ++ (c ∷ ls) ≡ (g.ps ++ (c ∷ [])) ++ ls
     behind ls = sym (append_assoc g.ps (c ∷ []) ls)
 
-    pub merge_first : Orders (drop i y) (drop j t) First → {r : ℕ} → Follows y i e r → Merging y t e r j f (gone + 1) new kept
+    pub merge_first : Orders (drop i y) (drop j t) Less → {r : ℕ} → Follows y i e r → Merging y t e r j f (gone + 1) new kept
     merge_first o {r} n = record {
       ps = g.ps ++ (c ∷ []);
       qs = g.qs;
@@ -174,7 +174,7 @@ module _ {y t : List ℕ} {i e j f gone new kept : ℕ} (g : Merging y t i e j f
         more ls ms u v = subst (λ (x : List (List ℕ)). Adds x (g.qs ++ ms) ls ms (gone + 1) new kept) (behind ls)
             (adds_first c ls ms (g.adds (c ∷ ls) ms (subst (λ (x : List (List ℕ)). Held y x) (sym (behind ls)) u) v) (out ms v))
 
-    pub merge_same : Orders (drop i y) (drop j t) Same → {r q : ℕ} → Follows y i e r → Follows t j f q → Merging y t e r f q gone new (kept + 1)
+    pub merge_same : Orders (drop i y) (drop j t) Equal → {r q : ℕ} → Follows y i e r → Follows t j f q → Merging y t e r f q gone new (kept + 1)
     merge_same o {r} {q} n m = record {
       ps = g.ps ++ (c ∷ []);
       qs = g.qs ++ (c ∷ []);
@@ -213,6 +213,6 @@ merge_flip {y} {t} g = record {
   small = g.few;
 }
 
-pub merge_second : {y t : List ℕ} {i e j f gone new kept : ℕ} (g : Merging y t i e j f gone new kept) → 0 < e → 0 < f → Orders (drop i y) (drop j t) Second
+pub merge_second : {y t : List ℕ} {i e j f gone new kept : ℕ} (g : Merging y t i e j f gone new kept) → 0 < e → 0 < f → Orders (drop i y) (drop j t) Greater
     → {q : ℕ} → Follows t j f q → Merging y t i e f q gone (new + 1) kept
 merge_second {y} {t} {i} {j = j} g h k o m = merge_flip (merge_first (merge_flip g) k h (orders_flip (drop i y) (drop j t) o) m)

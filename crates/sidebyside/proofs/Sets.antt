@@ -9,7 +9,7 @@ use native.Mathlib.Omega.{arith}
 use native.Mathlib.Decide.{ℕ_discrete}
 use lib.Dec.{eqb}
 use Rattle.paper.specs.Lists.{In, keep, up_to}
-use Rattle.paper.specs.Sets.{Set, none, of_events, members, Within}
+use Rattle.paper.specs.Sets.{Set, of_events, members, Within}
 use Rattle.paper.specs.Order.{Before}
 use Rattle.algebra.proofs.Base.{put_same, put_other}
 use Rattle.algebra.proofs.Lists.{keep_same}

@@ -2,16 +2,21 @@
 -- Assumes nothing.
 use mathlib.Core.Path.{◌≡◌, refl, sym, ap, ◌∙◌, subst}
 use mathlib.Core.Logic.{inl, inr}
+use mathlib.Core.Bool.{Bool, true, false, cond}
 use mathlib.Core.List.{List, [], ◌∷◌, ◌++◌, append_assoc}
 use Prim.Native.Nat.{ℕ, suc, ◌+◌, ◌<◌}
 use native.Mathlib.Numerals.{add-one}
 use native.Mathlib.Omega.{arith}
+use lib.Dec.{eqb, ltb}
 use lib.ListN.{drop}
+use borrow.Author.Tests.{eqb-true, eqb-false, ltb-true, ltb-false}
 use Rattle.paper.specs.Limits.{limits}
 use Rattle.paper.specs.Listing.{member_bytes, cut_bytes}
 use Rattle.sidebyside.specs.Members.{Rising, RisingFrom, Lt}
 use Rattle.sidebyside.specs.OneCut.{CutAt, NoCut, Ends, Ranks, Forks, Behind, Follows, Orders}
-use Rattle.sidebyside.specs.declared.cut.Earlier.TheVariants.{First, Same, Second}
+use Rattle.std.specs.declared.cmp.Ordering.{Ordering}
+use Rattle.std.specs.declared.cmp.Ordering.TheVariants.{Less, Equal, Greater}
+use Rattle.std.specs.Ordering.{nat_cmp}
 use Rattle.sidebyside.proofs.Lt.{lt_front, lt_unfront}
 use Rattle.sidebyside.proofs.Coding.{members_cut, peel}
 use Rattle.sidebyside.proofs.OneCut.{rank_first, rank_end}
@@ -53,14 +58,22 @@ module _ {a : List ℕ} {from : ℕ} {b : List ℕ} {start k x y : ℕ} (g : For
       subst (λ (z : List ℕ). R z fs) (sym v.is) (subst (λ (z : List ℕ). R (g.members ++ v.others) z) (sym w.is)
       (up v.others w.others (h v.others w.others rest rest' l m v.bytes w.bytes)))
 
-  pub order_first : x < y → Orders (drop from a) (drop start b) First
+  order_first : x < y → Orders (drop from a) (drop start b) Less
   order_first h = over Lt (λ es fs l. lt_front g.members es fs l) (λ es fs rest rest' u v p q. lower g.mine g.yours es fs rest rest' u v p q h)
 
-  pub order_second : y < x → Orders (drop from a) (drop start b) Second
+  order_second : y < x → Orders (drop from a) (drop start b) Greater
   order_second h = over (λ u v. Lt v u) (λ es fs l. lt_front g.members fs es l) (λ es fs rest rest' u v p q. lower g.yours g.mine fs es rest' rest v u q p h)
 
-  pub order_same : x ≡ y → Orders (drop from a) (drop start b) Same
+  order_same : x ≡ y → Orders (drop from a) (drop start b) Equal
   order_same h = over (λ u v. u ≡ v) (λ es fs l. ap (λ (z : List ℕ). g.members ++ z) l) (λ es fs rest rest' u v p q. level g.mine g.yours es fs rest rest' u v p q g.differ h)
+
+  pub order_cmp : {o : Ordering} → o ≡ nat_cmp x y → Orders (drop from a) (drop start b) o
+  order_cmp e = subst (λ (o : Ordering). Orders (drop from a) (drop start b) o) (sym e) (go (ltb x y) refl (eqb x y) refl)
+    where
+      go : (p : Bool) → ltb x y ≡ p → (q : Bool) → eqb x y ≡ q → Orders (drop from a) (drop start b) (cond p Less (cond q Equal Greater))
+      go true p q r = order_first (ltb-true x y p)
+      go false p true q = order_same (eqb-true x y q)
+      go false p false q = order_second (omega (arith, ltb-false x y p, eqb-false x y q))
 
 -- ---- the cut that follows
 

@@ -1,15 +1,15 @@
 -- The numbers gone, new and kept of two listings.
 -- Assumes nothing.
-use Rattle.std.specs.Prelude.{◌≡◌, Bool, not, ℕ, ◌+◌, ◌≤◌, length}
+use Rattle.std.specs.Prelude.{◌≡◌, Bool, not, ℕ, ◌+◌, ◌≤◌, length, Result, Ok, Err}
 use mathlib.Core.List.{List, ◌++◌, List-discrete}
 use Rattle.std.proofs.Math.Decide.{ℕ_discrete}
 use Rattle.paper.specs.Lists.{has, keep}
-use Rattle.paper.specs.GoodListing.{Good}
 use Rattle.paper.specs.Changes.{Counts}
 use Rattle.sidebyside.specs.Members.{Held}
 use Rattle.sidebyside.specs.Walking.{Standing}
+use Rattle.sidebyside.specs.Sided.{Fault}
+use Rattle.sidebyside.specs.declared.Side.{Side}
 use Rattle.sidebyside.specs.declared.Numbers.{Numbers}
-use Rattle.sidebyside.specs.declared.Numbers.TheVariants.{RefusedYesterday, RefusedToday, Counted}
 
 unfoldable pub has_cut : List (List ℕ) → List ℕ → Bool
 has_cut l c = has (List-discrete ℕ_discrete) c l
@@ -38,7 +38,6 @@ pub record Merging (y t : List ℕ) (i e j f gone new kept : ℕ) : Type 0 where
   pub small : new + kept ≤ j
 
 -- THE CONTRACT of `tally`
-abbrev pub Tallies : List ℕ → List ℕ → Numbers → Type 0
-Tallies y t RefusedYesterday = Good y → ⊥
-Tallies y t RefusedToday = Good y × (Good t → ⊥)
-Tallies y t (Counted gone new kept) = Counts y t gone new kept
+abbrev pub Tallies : List ℕ → List ℕ → Result Numbers Side → Type 0
+Tallies y t (Ok n) = Counts y t n.gone n.new n.kept
+Tallies y t (Err s) = Fault y t s

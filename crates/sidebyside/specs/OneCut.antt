@@ -4,8 +4,8 @@ use Rattle.std.specs.Prelude.{◌≡◌, List, [], ◌∷◌, ◌++◌, ℕ, ◌
 use Rattle.paper.specs.Limits.{limits}
 use Rattle.paper.specs.Listing.{member_bytes, cut_bytes}
 use Rattle.sidebyside.specs.Members.{RisingFrom, Lt}
-use Rattle.sidebyside.specs.declared.cut.Earlier.{Earlier}
-use Rattle.sidebyside.specs.declared.cut.Earlier.TheVariants.{First, Same, Second}
+use Rattle.std.specs.declared.cmp.Ordering.{Ordering}
+use Rattle.std.specs.declared.cmp.Ordering.TheVariants.{Less, Equal, Greater}
 
 -- a cut that is as Q says stands at i, and r is its end
 pub record CutAt (Q : List ℕ → Type 0) (s : List ℕ) (i r : ℕ) : Type 0 where
@@ -65,11 +65,11 @@ Behind p es = RisingFrom 0 es × Lt p es
 abbrev pub Follows : List ℕ → ℕ → ℕ → ℕ → Type 0
 Follows s last at r = (p : List ℕ) → RisingFrom 0 p → drop last s ≡ cut_bytes p ++ drop at s → Ends (Behind p) s at r
 
-abbrev pub Ordered : List ℕ → List ℕ → Earlier → Type 0
-Ordered es fs First = Lt es fs
-Ordered es fs Same = es ≡ fs
-Ordered es fs Second = Lt fs es
+abbrev pub Ordered : List ℕ → List ℕ → Ordering → Type 0
+Ordered es fs Less = Lt es fs
+Ordered es fs Equal = es ≡ fs
+Ordered es fs Greater = Lt fs es
 
 -- the order of the cuts at the front of t and of u
-abbrev pub Orders : List ℕ → List ℕ → Earlier → Type 0
+abbrev pub Orders : List ℕ → List ℕ → Ordering → Type 0
 Orders t u r = (es fs rest rest' : List ℕ) → RisingFrom 0 es → RisingFrom 0 fs → t ≡ cut_bytes es ++ rest → u ≡ cut_bytes fs ++ rest' → Ordered es fs r

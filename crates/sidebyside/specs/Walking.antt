@@ -1,14 +1,12 @@
 -- A walk along a listing, cut by cut, and what is left of it.
 -- Assumes nothing.
-use Rattle.std.specs.Prelude.{◌≡◌, List, ◌++◌, ℕ, ◌+◌, ◌≤◌, length, drop}
+use Rattle.std.specs.Prelude.{◌≡◌, List, ◌++◌, ℕ, ◌+◌, ◌≤◌, length, drop, Option, None, Some, Result, Ok, Err}
 use Rattle.paper.specs.Lists.{In}
 use Rattle.paper.specs.GoodListing.{Good}
 use Rattle.sidebyside.specs.Members.{RisingFrom, Lt, Rows, AllRising, cuts_bytes, Held}
 use Rattle.sidebyside.specs.OneCut.{Ends}
-use Rattle.sidebyside.specs.declared.Tail.{Tail}
-use Rattle.sidebyside.specs.declared.Tail.TheVariants.{Fault, Left}
-use Rattle.sidebyside.specs.declared.Tails.{Tails}
-use Rattle.sidebyside.specs.declared.Tails.TheVariants.{FaultFirst, FaultSecond, Both}
+use Rattle.sidebyside.specs.Sided.{Fault}
+use Rattle.sidebyside.specs.declared.Side.{Side}
 
 -- the cuts ps stand in s up to i, in order
 pub record Passed (s : List ℕ) (i : ℕ) (ps : List (List ℕ)) : Type 0 where
@@ -39,13 +37,12 @@ pub record Ahead (s : List ℕ) (i n : ℕ) : Type 0 where
   pub many : n ≡ length rest
   pub few : i + n ≤ length s
 
--- what is left of s from i on
-abbrev pub Tailed : List ℕ → ℕ → Tail → Type 0
-Tailed s i Fault = Good s → ⊥
-Tailed s i (Left n) = Ahead s i n
+-- what is left of s from i on: so many cuts, or a fault
+abbrev pub Tailed : List ℕ → ℕ → Option ℕ → Type 0
+Tailed s i None = Good s → ⊥
+Tailed s i (Some n) = Ahead s i n
 
--- what is left of both: yesterday's fault comes first
-abbrev pub BothTailed : List ℕ → ℕ → List ℕ → ℕ → Tails → Type 0
-BothTailed y i t j FaultFirst = Good y → ⊥
-BothTailed y i t j FaultSecond = Good y × (Good t → ⊥)
-BothTailed y i t j (Both n m) = Ahead y i n × Ahead t j m
+-- what is left of both, or whose fault refuses
+abbrev pub BothTailed : List ℕ → ℕ → List ℕ → ℕ → Result (ℕ × ℕ) Side → Type 0
+BothTailed y i t j (Ok r) = Ahead y i r.0 × Ahead t j r.1
+BothTailed y i t j (Err s) = Fault y t s

@@ -4,6 +4,8 @@ ghost use Rattle.paper.specs.Listing.{member_bytes};
 ghost use Rattle.sidebyside.specs.Members.{RisingFrom};
 ghost use Rattle.sidebyside.specs.OneCut.{RisesAt, Whole, Ends, Ranks, Forks, Follows, Orders};
 
+use std::cmp::Ordering;
+
 // The kinds of a listing's records: a member with one byte of event, the end of a cut, and a member with two bytes.
 const MEMBER: u8 = 0x21;
 
@@ -14,25 +16,11 @@ const WIDE: u8 = 0x23;
 // The first event whose member has two.
 const FIRST_WIDE: usize = paper::WIDE_FROM as usize;
 
-// Which of two cuts stands first in the order of listings.
-#[derive(Clone, Copy)]
-pub enum Earlier {
-    First,
-    Same,
-    Second,
-}
-
-// The number in one byte, and in two.
-fn narrow_number(x: u8) -> usize
-    ensures { result ≡ x }
-{
-    x as usize
-}
-
+// The number in two bytes, the low one first.
 fn wide_number(low: u8, high: u8) -> usize
     ensures { result ≡ low + 256 * high }
 {
-    (low as usize) + 256 * (high as usize)
+    usize::from(low) + 256 * usize::from(high)
 }
 
 // The rank of what stands at `i`, a record of kind 23: such a member's number is one that takes two bytes.
@@ -62,7 +50,7 @@ fn rank(s: &[u8], i: usize) -> usize
         return paper::EVENTS;
     }
     if s[i] == MEMBER {
-        return narrow_number(s[i + 1]);
+        return usize::from(s[i + 1]);
     }
     if s[i] == WIDE {
         return wide_rank(s, i);
@@ -76,7 +64,7 @@ pub fn member(s: &[u8], i: usize) -> usize
     ensures { Ranks s.now i result }
 {
     if s[i] == MEMBER {
-        return narrow_number(s[i + 1]);
+        return usize::from(s[i + 1]);
     }
     if s[i] == WIDE {
         return wide_number(s[i + 1], s[i + 2]);
@@ -111,14 +99,7 @@ fn common(a: &[u8], from: usize, b: &[u8], start: usize) -> Fork
     loop {
         let first = member(a, from + bytes);
         let second = rank(b, start + bytes);
-        if first != second {
-            return Fork {
-                bytes,
-                first,
-                second,
-            };
-        }
-        if paper::EVENTS <= first {
+        if first != second || paper::EVENTS <= first {
             return Fork {
                 bytes,
                 first,
@@ -175,7 +156,7 @@ pub fn next(s: &[u8], last: usize, at: usize) -> usize
 }
 
 // The order of two cuts.
-pub fn order(a: &[u8], from: usize, b: &[u8], start: usize) -> Earlier
+pub fn order(a: &[u8], from: usize, b: &[u8], start: usize) -> Ordering
     requires { Whole a.now from × Whole b.now start }
     ensures { Orders (drop from a.now) (drop start b.now) result }
 {
@@ -183,14 +164,8 @@ pub fn order(a: &[u8], from: usize, b: &[u8], start: usize) -> Earlier
     loop {
         let first = member(a, from + bytes);
         let second = member(b, start + bytes);
-        if first < second {
-            return Earlier::First;
-        }
-        if second < first {
-            return Earlier::Second;
-        }
-        if paper::EVENTS <= first {
-            return Earlier::Same;
+        if first != second || paper::EVENTS <= first {
+            return first.cmp(&second);
         }
         bytes += width(first);
     }

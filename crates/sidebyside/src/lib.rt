@@ -3,70 +3,48 @@
 
 pub mod cut; // one cut, and two beside each other
 
-ghost use Rattle.std.specs.Prelude.{◌≡◌, ◌+◌, ◌<◌};
+ghost use Rattle.std.specs.Prelude.{◌≡◌, ◌+◌, ◌<◌, Ok};
 ghost use Rattle.sidebyside.specs.Sided.{side_answer};
 ghost use Rattle.sidebyside.specs.Walking.{Walked, Tailed, BothTailed};
 ghost use Rattle.sidebyside.specs.Merging.{Merging, Tallies};
-ghost use Rattle.sidebyside.specs.Finding.{Finds, Parted};
+ghost use Rattle.sidebyside.specs.Finding.{Finds, shown, Parted};
 
-use cut::{Earlier, first_end, next, order};
+use cut::{first_end, next, order};
+use std::cmp::Ordering;
 
-// Which listing a comparison speaks of: of a first difference, or of a fault, which is number 20.
+// One of the two listings.
 #[derive(Clone, Copy)]
-pub enum Which {
-    Equal,
+pub enum Side {
     Yesterday,
     Today,
-    BadYesterday,
-    BadToday,
 }
 
-// The number of an answer, its place, and its side: 0 neither, 1 yesterday, 2 today.
-pub fn number(w: Which) -> u8
+// The number of an answer, its place, and its side: 0 neither, 1 yesterday, 2 today. The answer: the listing that has a fault, which is number 20, or else the
+// one that has the first difference, if there is one.
+pub fn number(w: Result<Option<Side>, Side>) -> u8
     ensures { result ≡ (side_answer w).number }
 {
-    match w {
-        Which::Equal => 0,
-        Which::Yesterday => 0,
-        Which::Today => 0,
-        Which::BadYesterday => 20,
-        Which::BadToday => 20,
-    }
+    if w.is_ok() { 0 } else { 20 }
 }
 
-pub fn place(w: Which) -> usize
+pub fn place(w: Result<Option<Side>, Side>) -> usize
     ensures { result ≡ (side_answer w).place }
 {
-    match w {
-        Which::Equal => 0,
-        Which::Yesterday => 0,
-        Which::Today => 0,
-        Which::BadYesterday => 0,
-        Which::BadToday => 0,
-    }
+    0
 }
 
-pub fn listing(w: Which) -> u8
+pub fn listing(w: Result<Option<Side>, Side>) -> u8
     ensures { result ≡ (side_answer w).side }
 {
     match w {
-        Which::Equal => 0,
-        Which::Yesterday => 1,
-        Which::Today => 2,
-        Which::BadYesterday => 1,
-        Which::BadToday => 2,
+        Ok(None) => 0,
+        Ok(Some(Side::Yesterday)) | Err(Side::Yesterday) => 1,
+        Ok(Some(Side::Today)) | Err(Side::Today) => 2,
     }
 }
 
-// What is left of a listing: a fault, or so many cuts.
-#[derive(Clone, Copy)]
-pub enum Tail {
-    Fault,
-    Left(usize),
-}
-
-// Judges what is left from `at` on, where a cut stands that ends at `end`, and counts it.
-fn rest(s: &[u8], at: usize, end: usize) -> Tail
+// Judges what is left from `at` on, where a cut stands that ends at `end`, and counts its cuts; none: a fault.
+fn rest(s: &[u8], at: usize, end: usize) -> Option<usize>
     requires { Walked s.now at end }
     ensures { Tailed s.now at result }
 {
@@ -80,45 +58,31 @@ fn rest(s: &[u8], at: usize, end: usize) -> Tail
         n += 1;
     }
     if i < s.len() {
-        return Tail::Fault;
+        return None;
     }
-    Tail::Left(n)
+    Some(n)
 }
 
-// What is left of two listings: yesterday's fault comes first.
-#[derive(Clone, Copy)]
-pub enum Tails {
-    FaultFirst,
-    FaultSecond,
-    Both(usize, usize),
-}
-
-// Judges and counts what is left of both.
-fn rests(y: &[u8], i: usize, e: usize, t: &[u8], j: usize, f: usize) -> Tails
+// Judges and counts what is left of both: yesterday's fault comes first.
+fn rests(y: &[u8], i: usize, e: usize, t: &[u8], j: usize, f: usize) -> Result<(usize, usize), Side>
     requires { Walked y.now i e × Walked t.now j f }
     ensures { BothTailed y.now i t.now j result }
 {
-    let a = rest(y, i, e);
-    match a {
-        Tail::Fault => Tails::FaultFirst,
-        Tail::Left(n) => {
-            let b = rest(t, j, f);
-            match b {
-                Tail::Fault => Tails::FaultSecond,
-                Tail::Left(m) => Tails::Both(n, m),
-            }
-        }
-    }
+    let Some(n) = rest(y, i, e) else {
+        return Err(Side::Yesterday);
+    };
+    let Some(m) = rest(t, j, f) else {
+        return Err(Side::Today);
+    };
+    Ok((n, m))
 }
 
-// What a comparison found, and the places where the cut starts and ends.
+// The first cut that stands in one listing only: whose it is, and the places where it starts and ends.
 #[derive(Clone, Copy)]
-pub enum Difference {
-    Alike,
-    OfYesterday(usize, usize),
-    OfToday(usize, usize),
-    FaultYesterday,
-    FaultToday,
+pub struct Difference {
+    pub side: Side,
+    pub start: usize,
+    pub end: usize,
 }
 
 // Where two listings part: the cuts at `at`, their ends, and what that shows if both are good.
@@ -127,18 +91,14 @@ pub struct Parting {
     pub at: usize,
     pub end: usize,
     pub stop: usize,
-    pub found: Difference,
+    pub found: Option<Difference>,
 }
 
-fn met(at: usize, end: usize, stop: usize, found: Difference) -> Parting
-    ensures { (result.at ≡ at) × (result.end ≡ end) × (result.stop ≡ stop) × (result.found ≡ found) }
+// Of the listing of this side: its cut from `start` to `end`.
+fn shown(side: Side, start: usize, end: usize) -> Option<Difference>
+    ensures { result ≡ shown side start end }
 {
-    Parting {
-        at,
-        end,
-        stop,
-        found,
-    }
+    Some(Difference { side, start, end })
 }
 
 // Walks along both listings as long as their cuts are the same.
@@ -150,17 +110,31 @@ fn part(y: &[u8], t: &[u8]) -> Parting
     let mut stop = first_end(t);
     while 0 < end {
         if stop == 0 {
-            return met(at, end, stop, Difference::OfYesterday(at, end));
+            return Parting {
+                at,
+                end,
+                stop,
+                found: shown(Side::Yesterday, at, end),
+            };
         }
-        let o = order(y, at, t, at);
-        match o {
-            Earlier::First => {
-                return met(at, end, stop, Difference::OfYesterday(at, end));
+        match order(y, at, t, at) {
+            Ordering::Less => {
+                return Parting {
+                    at,
+                    end,
+                    stop,
+                    found: shown(Side::Yesterday, at, end),
+                };
             }
-            Earlier::Second => {
-                return met(at, end, stop, Difference::OfToday(at, stop));
+            Ordering::Greater => {
+                return Parting {
+                    at,
+                    end,
+                    stop,
+                    found: shown(Side::Today, at, stop),
+                };
             }
-            Earlier::Same => {
+            Ordering::Equal => {
                 let e = next(y, at, end);
                 stop = next(t, at, stop);
                 at = end;
@@ -169,26 +143,28 @@ fn part(y: &[u8], t: &[u8]) -> Parting
         }
     }
     if stop == 0 {
-        return met(at, end, stop, Difference::Alike);
+        return Parting {
+            at,
+            end,
+            stop,
+            found: None,
+        };
     }
-    met(at, end, stop, Difference::OfToday(at, stop))
+    Parting {
+        at,
+        end,
+        stop,
+        found: shown(Side::Today, at, stop),
+    }
 }
 
-// The first cut that stands in one listing and not in the other; both are judged whole.
-pub fn find(y: &[u8], t: &[u8]) -> Difference
+// The first cut that stands in one listing and not in the other, if there is one; both are judged whole.
+pub fn find(y: &[u8], t: &[u8]) -> Result<Option<Difference>, Side>
     ensures { Finds y.now t.now result }
 {
     let p = part(y, t);
-    let at = p.at;
-    let end = p.end;
-    let stop = p.stop;
-    let found = p.found;
-    let r = rests(y, at, end, t, at, stop);
-    match r {
-        Tails::FaultFirst => Difference::FaultYesterday,
-        Tails::FaultSecond => Difference::FaultToday,
-        Tails::Both(n, m) => found,
-    }
+    rests(y, p.at, p.end, t, p.at, p.stop)?;
+    Ok(p.found)
 }
 
 // How far two listings are compared: the cuts that stand next, and the numbers gone, new and kept up to there.
@@ -204,50 +180,32 @@ pub struct Progress {
 }
 
 // One cut more: the earlier of the two that stand next, or both where they are the same.
-fn step(
-    y: &[u8],
-    t: &[u8],
-    i: usize,
-    e: usize,
-    j: usize,
-    f: usize,
-    gone: usize,
-    new: usize,
-    kept: usize,
-) -> Progress
-    requires merging { Merging y.now t.now i e j f gone new kept }
-    requires e_nonzero { (0 < e) × (0 < f) }
+fn step(y: &[u8], t: &[u8], p: Progress) -> Progress
+    requires merging { Merging y.now t.now p.i p.e p.j p.f p.gone p.new p.kept }
+    requires e_nonzero { (0 < p.e) × (0 < p.f) }
     ensures merging_2 { Merging y.now t.now result.i result.e result.j result.f result.gone result.new result.kept }
-    ensures on { i + j < result.i + result.j }
+    ensures on { p.i + p.j < result.i + result.j }
 {
-    let o = order(y, i, t, j);
-    match o {
-        Earlier::First => Progress {
-            i: e,
-            e: next(y, i, e),
-            j,
-            f,
-            gone: gone + 1,
-            new,
-            kept,
+    match order(y, p.i, t, p.j) {
+        Ordering::Less => Progress {
+            i: p.e,
+            e: next(y, p.i, p.e),
+            gone: p.gone + 1,
+            ..p
         },
-        Earlier::Second => Progress {
-            i,
-            e,
-            j: f,
-            f: next(t, j, f),
-            gone,
-            new: new + 1,
-            kept,
+        Ordering::Greater => Progress {
+            j: p.f,
+            f: next(t, p.j, p.f),
+            new: p.new + 1,
+            ..p
         },
-        Earlier::Same => Progress {
-            i: e,
-            e: next(y, i, e),
-            j: f,
-            f: next(t, j, f),
-            gone,
-            new,
-            kept: kept + 1,
+        Ordering::Equal => Progress {
+            i: p.e,
+            e: next(y, p.i, p.e),
+            j: p.f,
+            f: next(t, p.j, p.f),
+            kept: p.kept + 1,
+            ..p
         },
     }
 }
@@ -270,28 +228,28 @@ fn merge(y: &[u8], t: &[u8]) -> Progress
         if r.f == 0 {
             return r;
         }
-        r = step(y, t, r.i, r.e, r.j, r.f, r.gone, r.new, r.kept);
+        r = step(y, t, r);
     }
     r
 }
 
-// The numbers gone, new and kept, or whose fault refuses.
+// The numbers of cuts gone, new and kept.
 #[derive(Clone, Copy)]
-pub enum Numbers {
-    RefusedYesterday,
-    RefusedToday,
-    Counted(usize, usize, usize),
+pub struct Numbers {
+    pub gone: usize,
+    pub new: usize,
+    pub kept: usize,
 }
 
-// The whole comparison.
-pub fn tally(y: &[u8], t: &[u8]) -> Numbers
+// The whole comparison, or whose fault refuses.
+pub fn tally(y: &[u8], t: &[u8]) -> Result<Numbers, Side>
     ensures { Tallies y.now t.now result }
 {
     let m = merge(y, t);
-    let r = rests(y, m.i, m.e, t, m.j, m.f);
-    match r {
-        Tails::FaultFirst => Numbers::RefusedYesterday,
-        Tails::FaultSecond => Numbers::RefusedToday,
-        Tails::Both(a, b) => Numbers::Counted(m.gone + a, m.new + b, m.kept),
-    }
+    let (a, b) = rests(y, m.i, m.e, t, m.j, m.f)?;
+    Ok(Numbers {
+        gone: m.gone + a,
+        new: m.new + b,
+        kept: m.kept,
+    })
 }

@@ -3,12 +3,12 @@
 use mathlib.Core.Path.{◌≡◌, refl, sym, ap, ◌∙◌, subst}
 use mathlib.Core.Logic.{◌⊎◌, inl, inr}
 use mathlib.Core.Bool.{true}
-use mathlib.Core.List.{List}
-use Prim.Native.Nat.{ℕ, ◌+◌, ◌≤◌, ◌<◌}
-use native.Mathlib.Decide.{ℕ_discrete}
+use mathlib.Core.List.{List, ◌++◌}
+use Prim.Native.Nat.{ℕ, ◌+◌, ◌-◌, ◌≤◌, ◌<◌}
 use native.Mathlib.Omega.{arith}
-use lib.ListN.{length, get_or, set, replicate, length-set}
-use lib.Seq.{get_or-set_same, get_or-set_other}
+use lib.ListN.{length, get_or, drop, get_or-append, length-append, length-drop}
+use lib.Seq.{get_or-append_right}
+use Rattle.std.proofs.lemmas.List.{get_or-drop}
 use Rattle.tables.specs.Table.{den}
 use Rattle.tables.specs.Lent.{Lent}
 use Rattle.store.proofs.Denotes.{below_or_not}
@@ -17,27 +17,17 @@ use Rattle.tables.proofs.Lent.{lent_lower, root_ordered}
 use Rattle.paper.specs.Sizes.{count_of, sizes}
 use Rattle.sizes.specs.Recursion.{sized, deepest}
 use Rattle.sizes.specs.Passes.{Over, Whole, Written}
-use Rattle.sizes.specs.Counted.{Fits, TooMany, Refused, Cleared, Stopped, Done}
+use Rattle.sizes.specs.Counted.{Fits, TooMany, Refused, Stopped, Done}
 use Rattle.sizes.proofs.Counts.{count_sized, deepest_within, sized_above}
 
 -- ---- writing
 
-pub written_none : (C L : List ℕ) → Written 0 C L C
-written_none C L = record { at = λ j h. absurd (omega arith); behind = λ j h. refl; long = refl }
-
-pub written_more : {m v : ℕ} {C L C' : List ℕ} → Written m C L C' → m < length C → v ≡ get_or L m 0 → Written (m + 1) C L (set C' m v)
-written_more {m} {v} {C} {L} {C'} w l q = record {
-  at = λ j h. one j h (ℕ_discrete j m);
-  behind = λ j h. get_or-set_other C' m j v 0 (λ z. omega (arith, z, h)) ∙ w.behind j (omega arith);
-  long = length-set C' m v ∙ w.long;
-}
-  where
-    one : (j : ℕ) → j < m + 1 → Dec (j ≡ m) → get_or (set C' m v) j 0 ≡ get_or L j 0
-    one j h (yes e) = let g = w.long in ap (λ x. get_or (set C' m v) x 0) e ∙ get_or-set_same C' m v 0 (omega arith) ∙ q ∙ ap (λ x. get_or L x 0) (sym e)
-    one j h (no n) = get_or-set_other C' m j v 0 n ∙ w.at j (omega arith)
-
-pub written_all : {m k : ℕ} {C L C' : List ℕ} → Written m C L C' → k ≤ m → m ≤ k → Written k C L C'
-written_all {m} {k} {C} {L} {C'} w a b = let q : m ≡ k = omega arith in subst (λ x. Written x C L C') q w
+pub written_front : {m : ℕ} {C L D : List ℕ} → length L ≡ m → m ≤ length C → D ≡ L → Written m C L (D ++ drop m C)
+written_front {m} {C} {L} {D} e l q = subst (λ X. Written m C L (X ++ drop m C)) (sym q) (record {
+  at = λ j h. get_or-append L (drop m C) 0 j (omega arith);
+  behind = λ j h. get_or-append_right L (drop m C) j 0 (omega arith) ∙ get_or-drop m C (j - length L) 0 ∙ (let k : m + (j - length L) ≡ j = omega arith in ap (λ x. get_or C x 0) k);
+  long = simp (length-append, length-drop) (omega arith);
+})
 
 -- ---- the answers
 
@@ -46,10 +36,6 @@ refused_now r = record { number_is = r.0; no_place = r.1; counts = refl; less = 
 
 pub stopped_now : {number place : ℕ} {C : List ℕ} → (number ≡ 19) × (place ≡ 0) → Stopped number place C C
 stopped_now r = record { number_is = r.0; no_place = r.1; counts = refl }
-
-pub cleared_now : {B W R B' W' R' : List ℕ} {x y z : ℕ} → B' ≡ replicate x 0 → x ≡ length B → W' ≡ replicate y 0 → y ≡ length W → R' ≡ replicate z 0 → z ≡ length R
-    → Cleared B W R B' W' R'
-cleared_now b p w q r s = record { less = b ∙ ap (λ k. replicate k 0) p; work = w ∙ ap (λ k. replicate k 0) q; reached = r ∙ ap (λ k. replicate k 0) s }
 
 module _ {n : ℕ} {T : List ℕ} {c root : ℕ} (lent : Lent true n T c root) where
   pub lent_held : Held T root

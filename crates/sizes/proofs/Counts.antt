@@ -1,13 +1,13 @@
 -- The count of a diagram by recursion, and the bound of a node's counts by the root's.
 -- Assumes nothing.
 use mathlib.Core.Path.{◌≡◌, refl, sym, ap, ap₂, ◌∙◌}
-use mathlib.Core.Logic.{◌≢◌}
 use mathlib.Core.Bool.{Bool, true, false, cond}
 use mathlib.Core.List.{[], ◌∷◌, map}
 use Prim.Native.Nat.{ℕ, zero, suc, ◌+◌, ◌≤◌, ◌<◌, max}
 use native.Mathlib.Decide.{ℕ_discrete}
 use native.Mathlib.Omega.{arith}
 use lib.Dec.{eqb}
+use mir.Val.{bool_byte}
 use lib.ListN.{length, length-append, length-map}
 use borrow.Author.Tests.{eqb-true, eq-eqb, ne_eqb}
 use Rattle.paper.specs.Lists.{keep, up_to}
@@ -114,12 +114,9 @@ pub sized_leaf : (b : Bool) (k : ℕ) → sized (leaf b) k ≡ cond b (single k)
 unfolding sized
 sized_leaf b k = refl
 
-pub single_zero : (k : ℕ) → k ≡ 0 → 1 ≡ single k
-single_zero k q = sym (ap single q)
-
-pub single_more : (k : ℕ) → k ≢ 0 → 0 ≡ single k
-single_more zero h = absurd (h refl)
-single_more (suc k) h = refl
+pub single_is : (k : ℕ) → bool_byte (eqb k 0) ≡ single k
+single_is zero = refl
+single_is (suc k) = ap bool_byte (ne_eqb (suc k) 0 (λ z. omega (arith, z)))
 
 pub single_small : (k : ℕ) → single k ≤ 1
 single_small zero = omega arith

@@ -2,14 +2,15 @@
 -- Assumes nothing.
 use mathlib.Core.Path.{◌≡◌, refl, sym, ap, ap₂, ◌∙◌, subst}
 use mathlib.Core.Logic.{◌⊎◌, inl, inr}
-use mathlib.Core.Bool.{Bool, true, false}
+use mathlib.Core.Bool.{true, false}
+use Rattle.std.specs.Prelude.{Option, Some, None}
 use mathlib.Core.List.{List}
 use Prim.Native.Nat.{ℕ, zero, suc, ◌+◌, ◌≤◌, ◌<◌, max}
 use native.Mathlib.Decide.{ℕ_discrete}
 use native.Mathlib.Omega.{arith}
 use lib.ListN.{length, get_or, set, length-set}
 use lib.Seq.{get_or-set_same, get_or-set_other}
-use Rattle.paper.specs.Diagrams.{leaf, node}
+use Rattle.paper.specs.Diagrams.{node}
 use Rattle.paper.specs.Sizes.{largest, sizes}
 use Rattle.tables.specs.Table.{event_of, failed_of, sound_of, den}
 use Rattle.tables.proofs.Den.{den_0, den_1, den_node}
@@ -175,17 +176,17 @@ module _ {T : List ℕ} {root : ℕ} {R : List ℕ} {m p i : ℕ} (held : Held T
 
     -- ---- the count
 
-    module _ {k : ℕ} {B W : List ℕ} {r : Bool} {W' : List ℕ} (before : Before T root k B) (pass : Passing T R k W p) (adds : Adds B W i f s r W') where
+    module _ {k : ℕ} {B W : List ℕ} {r : Option (Unit {0})} {W' : List ℕ} (before : Before T root k B) (pass : Passing T R k W p) (adds : Adds B W i f s r W') where
       -- the sum is the node's count
       sum_is : get_or B f 0 + get_or W s 0 ≡ sized (den T i) k
       sum_is =
           ap₂ ◌+◌ (before.at f reached_f ∙ ap (λ j. lowered (sized (den T j)) k) qf) (sound_value pass.values ∙ ap (λ j. sized (den T j) k) qs)
           ∙ sym (count_at held i k turn_two turn_low)
 
-      pub passing_over : r ≡ false → Over (den T root)
+      pub passing_over : r ≡ None → Over (den T root)
       passing_over q = over_at held k turn_reached (subst (λ a. largest < a) sum_is (adds.above q))
 
-      pub passing_step : r ≡ true → i < length W → Passing T R k W' (p + 1)
+      pub passing_step : r ≡ Some tt → i < length W → Passing T R k W' (p + 1)
       passing_step q b = let w = adds.stored q in subst (λ x. Passing T R k x (p + 1)) (sym w.0) (record {
         values = valued_more ls pass.values l e b sum_is;
         small = λ j h. few j h (ℕ_discrete j p) (subst (λ a. a ≤ largest) sum_is w.1);
@@ -218,19 +219,19 @@ passing_end {T} {root} {R} {m} {k} {W} {p} ls pass l = record {
     few j r (inl h) = low j h
     few j r (inr h) = let w = ls.all j r h in let a = w.within in subst (λ x. sized (den T x) k ≤ largest) w.is (pass.small w.at (omega arith))
 
-pub passed_fits : {T : List ℕ} {root k : ℕ} {W : List ℕ} → Before T root (k + 1) W → Passed T root k W true
-passed_fits b = record { fits = λ _. b; over = λ q. let bad : ◌≡◌ {A = ℕ} 0 1 = cc in absurd (omega arith) }
+pub passed_fits : {T : List ℕ} {root k : ℕ} {W : List ℕ} → Before T root (k + 1) W → Passed T root k W (Some tt)
+passed_fits b = record { fits = λ _. b; over = λ q. cc }
 
-pub passed_over : {T : List ℕ} {root k : ℕ} {W : List ℕ} → Over (den T root) → Passed T root k W false
-passed_over b = record { fits = λ q. let bad : ◌≡◌ {A = ℕ} 0 1 = cc in absurd (omega arith); over = λ _. b }
+pub passed_over : {T : List ℕ} {root k : ℕ} {W : List ℕ} → Over (den T root) → Passed T root k W None
+passed_over b = record { fits = λ q. cc; over = λ _. b }
 
 -- ---- one sum
 
-pub adds_over : {B W : List ℕ} {i f s : ℕ} → largest < get_or B f 0 + get_or W s 0 → Adds B W i f s false W
-adds_over l = record { stored = λ q. let bad : ◌≡◌ {A = ℕ} 0 1 = cc in absurd (omega arith); above = λ q. l }
+pub adds_over : {B W : List ℕ} {i f s : ℕ} → largest < get_or B f 0 + get_or W s 0 → Adds B W i f s None W
+adds_over l = record { stored = λ q. cc; above = λ q. l }
 
-pub adds_sum : {B W : List ℕ} {i f s : ℕ} → get_or B f 0 + get_or W s 0 ≤ largest → Adds B W i f s true (set W i (get_or B f 0 + get_or W s 0))
-adds_sum l = record { stored = λ q. (refl, l); above = λ q. let bad : ◌≡◌ {A = ℕ} 0 1 = cc in absurd (omega arith) }
+pub adds_sum : {B W : List ℕ} {i f s : ℕ} → get_or B f 0 + get_or W s 0 ≤ largest → Adds B W i f s (Some tt) (set W i (get_or B f 0 + get_or W s 0))
+adds_sum l = record { stored = λ q. (refl, l); above = λ q. cc }
 
 -- two stores leave the length
 pub length_two : (W : List ℕ) (i a j b : ℕ) → length (set (set W i a) j b) ≡ length W

@@ -6,11 +6,11 @@ use mathlib.Core.List.{List}
 use Prim.Native.Nat.{ℕ, ◌+◌, ◌<◌, ◌≤◌, max}
 use native.Mathlib.Decide.{ℕ_discrete}
 use native.Mathlib.Omega.{arith}
-use lib.ListN.{length, get_or, set, length-set}
-use lib.Seq.{get_or-set_same, get_or-set_other}
+use lib.ListN.{length, get_or, set, take, length-set}
+use lib.Seq.{get_or-set_same, get_or-set_other, length-take-le, get_or-take}
 use Rattle.store.proofs.Denotes.{below_or_not}
 use Rattle.without.specs.Reading.{Held}
-use Rattle.cuts.specs.Reach.{Marked}
+use Rattle.cuts.specs.Reach.{Reached, Marked}
 use Rattle.cuts.proofs.Marks.{reached_low}
 use Rattle.sizes.specs.Reach.{Takes, Place, Collecting, Listed}
 
@@ -134,3 +134,16 @@ module _ {T : List ℕ} {root : ℕ} {R : List ℕ} {m : ℕ} (ls : Listed T roo
           same : Dec (p ≡ q) → q < p
           same (yes e) = let g = ap (λ x. get_or R x 0) e in absurd (omega (arith, h, g))
           same (no n) = let g = ls.rising p q (omega arith) b in absurd (omega (arith, h, g))
+
+-- the list alone
+pub listed_alone : {T : List ℕ} {root : ℕ} {R : List ℕ} {m : ℕ} → Listed T root R m → Listed T root (take m R) (length (take m R))
+listed_alone {T} {root} {R} {m} ls = subst (Listed T root (take m R)) (sym (length-take-le m R ls.short)) (record {
+  short = let e = length-take-le m R ls.short in omega arith;
+  node = λ p l. subst (λ x. 2 ≤ x) (same p l) (ls.node p l);
+  reached = λ p l. subst (Reached T root) (same p l) (ls.reached p l);
+  rising = λ p q a b. let h = ls.rising p q a b in let x = same p (omega arith) in let y = same q b in omega (arith, h, x, y);
+  all = λ j r two. let w = ls.all j r two in record { at = w.at; within = w.within; is = sym (same w.at w.within) ∙ w.is };
+})
+  where
+    same : (p : ℕ) → p < m → get_or R p 0 ≡ get_or (take m R) p 0
+    same p l = sym (get_or-take m R p 0 l)

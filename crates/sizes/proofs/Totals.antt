@@ -2,12 +2,12 @@
 -- Assumes nothing.
 use mathlib.Core.Path.{◌≡◌, sym, ap, ◌∙◌, subst}
 use mathlib.Core.Logic.{◌⊎◌, inl, inr}
-use mathlib.Core.Bool.{true, false}
+use Rattle.std.specs.Prelude.{Some, None}
 use mathlib.Core.List.{List}
 use Prim.Native.Nat.{ℕ, ◌+◌, ◌≤◌, ◌<◌}
 use native.Mathlib.Decide.{ℕ_discrete}
 use native.Mathlib.Omega.{arith}
-use lib.ListN.{get_or, set, replicate, length-set, length-replicate}
+use lib.ListN.{length, get_or, set, replicate, length-set, length-replicate}
 use lib.Seq.{get_or-set_same, get_or-set_other}
 use Rattle.paper.specs.Diagrams.{Diagram}
 use Rattle.paper.specs.Sizes.{largest, sizes}
@@ -61,19 +61,12 @@ whole {d} {k} {L} t z = record {
     low j (inl h) = t.small j h
     low j (inr h) = let e = z j h in omega arith
 
-pub totals_end : {d : Diagram} {k : ℕ} {L : List ℕ} → deepest d < k → Totals d k L → Totalled d L true
-totals_end {d} l t = record {
-  fits = λ _. whole t (λ j h. sized_above d j (omega arith));
-  over = λ q. let bad : ◌≡◌ {A = ℕ} 0 1 = cc in absurd (omega arith);
+pub totals_end : {d : Diagram} {k : ℕ} {L : List ℕ} → deepest d < k → Totals d k L → Totalled d (Some L)
+totals_end {d} {k} {L} l t = record {
+  fits = λ M q. let e : L ≡ M = cc in subst (Whole d) e (whole t (λ j h. sized_above d j (omega arith)));
+  long = λ M q. let e : L ≡ M = cc in ap length (sym e) ∙ t.long;
+  over = λ q. cc;
 }
 
-pub totals_over : {d : Diagram} {L : List ℕ} → Over d → Totalled d L false
-totals_over b = record { fits = λ q. let bad : ◌≡◌ {A = ℕ} 0 1 = cc in absurd (omega arith); over = λ _. b }
-
--- two sizes in a turn
-pub two_more : {T : List ℕ} {root k v u : ℕ} {W B L : List ℕ} → Totals (den T root) k L → k + 1 < sizes → Before T root (k + 1) W → v ≡ get_or W root 0
-    → Before T root (k + 1 + 1) B → u ≡ get_or B root 0 → Totals (den T root) (k + 1 + 1) (set (set L k v) (k + 1) u)
-two_more {T} {root} {k} {v} {u} {W} {B} {L} t l b q c p = totals_more (totals_more t (omega arith) b q) l c p
-
-pub two_on : {T : List ℕ} {root : ℕ} (k : ℕ) {B L : List ℕ} → Totals (den T root) (k + 1 + 1) L → Before T root (k + 1 + 1) B → Totals (den T root) (k + 2) L × Before T root (k + 2) B
-two_on {T} {root} k {B} {L} t b = let q : k + 1 + 1 ≡ k + 2 = omega arith in (subst (λ x. Totals (den T root) x L) q t, subst (λ x. Before T root x B) q b)
+pub totals_over : {d : Diagram} → Over d → Totalled d None
+totals_over b = record { fits = λ M q. cc; long = λ M q. cc; over = λ _. b }

@@ -1,6 +1,6 @@
 -- What the passes over the list of reached nodes store.
 -- Assumes nothing.
-use Rattle.std.specs.Prelude.{◌≡◌, Bool, true, false, List, ℕ, ◌+◌, ◌≤◌, ◌<◌, length, get_or, set}
+use Rattle.std.specs.Prelude.{◌≡◌, Option, Some, None, List, ℕ, ◌+◌, ◌≤◌, ◌<◌, length, get_or, set}
 use Rattle.paper.specs.Diagrams.{Diagram}
 use Rattle.paper.specs.Sizes.{largest, sizes}
 use Rattle.tables.specs.Table.{den}
@@ -30,14 +30,14 @@ pub record Over (d : Diagram) : Type 0 where
   pub large : largest < sized d size
 
 -- after a pass for size k
-pub record Passed (T : List ℕ) (root k : ℕ) (W : List ℕ) (r : Bool) : Type 0 where
-  pub fits : r ≡ true → Before T root (k + 1) W
-  pub over : r ≡ false → Over (den T root)
+pub record Passed (T : List ℕ) (root k : ℕ) (W : List ℕ) (r : Option (Unit {0})) : Type 0 where
+  pub fits : r ≡ Some tt → Before T root (k + 1) W
+  pub over : r ≡ None → Over (den T root)
 
 -- the sum of two counts goes to number i, unless it is above the largest
-pub record Adds (B W : List ℕ) (i f s : ℕ) (r : Bool) (W' : List ℕ) : Type 0 where
-  pub stored : r ≡ true → (W' ≡ set W i (get_or B f 0 + get_or W s 0)) × (get_or B f 0 + get_or W s 0 ≤ largest)
-  pub above : r ≡ false → largest < get_or B f 0 + get_or W s 0
+pub record Adds (B W : List ℕ) (i f s : ℕ) (r : Option (Unit {0})) (W' : List ℕ) : Type 0 where
+  pub stored : r ≡ Some tt → (W' ≡ set W i (get_or B f 0 + get_or W s 0)) × (get_or B f 0 + get_or W s 0 ≤ largest)
+  pub above : r ≡ None → largest < get_or B f 0 + get_or W s 0
 
 -- ---- all sizes
 
@@ -53,9 +53,10 @@ pub record Whole (d : Diagram) (L : List ℕ) : Type 0 where
   pub at : (j : ℕ) → get_or L j 0 ≡ sized d j
   pub small : (j : ℕ) → sized d j ≤ largest
 
-pub record Totalled (d : Diagram) (L : List ℕ) (r : Bool) : Type 0 where
-  pub fits : r ≡ true → Whole d L
-  pub over : r ≡ false → Over d
+pub record Totalled (d : Diagram) (r : Option (List ℕ)) : Type 0 where
+  pub fits : (L : List ℕ) → r ≡ Some L → Whole d L
+  pub long : (L : List ℕ) → r ≡ Some L → length L ≡ sizes
+  pub over : r ≡ None → Over d
 
 -- the first m numbers of L stand in C', what C had stands behind them
 pub record Written (m : ℕ) (C L C' : List ℕ) : Type 0 where

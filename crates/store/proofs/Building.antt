@@ -4,6 +4,7 @@ use mathlib.Core.Path.{◌≡◌, refl, sym, ap, ◌∙◌, subst}
 use mathlib.Core.Logic.{◌≢◌, ◌⊎◌, inl, inr}
 use mathlib.Core.Bool.{true, false≢true}
 use mathlib.Core.List.{List}
+use Rattle.std.specs.Prelude.{Result, Ok, Err}
 use Prim.Native.Nat.{ℕ, zero, suc, ◌+◌, ◌-◌, ◌*◌, ◌/◌, ◌<◌, ◌≤◌}
 use native.Mathlib.Omega.{arith}
 use lib.ListN.{get_or, length, set}
@@ -14,15 +15,14 @@ use Rattle.algebra.specs.Families.{mk_z}
 use Rattle.algebra.proofs.Base.{mk_same, mk_node, same_node}
 use Rattle.algebra.proofs.Subs.{subs_self, subs_trans}
 use Rattle.algebra.proofs.Without.{mkz_none, mkz_node}
-use Rattle.tables.specs.Table.{failed_of, sound_of, den}
+use Rattle.tables.specs.Table.{den}
 use Rattle.tables.proofs.Den.{den_0, den_1, den_node}
 use Rattle.tables.proofs.Once.{den_inj}
-use Rattle.store.specs.Store.{First, Store, Put, Sought}
+use Rattle.store.specs.Store.{First, Absent, Store, Put, Stored}
 use Rattle.store.specs.Building.{Is, Part, Found, Step, Makes, Lacks, Stops, Builds, Only, Tidy}
-use Rattle.store.specs.Placing.{Unchanged, Lacking, Was, Grew, NoRoom, Puts, built_of}
+use Rattle.store.specs.Placing.{Unchanged, Lacking, Was, Grew, NoRoom, Puts}
 use Rattle.store.specs.declared.Built.{Built}
-use Rattle.store.specs.declared.Placed.{Placed}
-use Rattle.store.specs.declared.Placed.TheVariants.{Present, Added, Full}
+use Rattle.store.specs.declared.Full.{Full}
 use Rattle.store.proofs.Denotes.{below_or_not, grown_refl, grown_trans, den_grown, found_grown, den_no_node}
 use Rattle.store.proofs.Adding.{put_grown, store_more, den_more}
 
@@ -125,18 +125,19 @@ unchanged T H X = record { nodes = refl; heads = refl; links = refl }
 
 module _ {T H X : List ℕ} {c e f s : ℕ} (t : Store T H X c) where
   -- it is there
-  pub placed_old : {r : ℕ} → 2 ≤ r → Sought T c e f s r → Was T H X c (target T e f s) T H X r
-  placed_old {r} p q =
-      let x = q.hit p in
+  pub placed_old : {r : ℕ} → Stored T c e f s r → Was T H X c (target T e f s) T H X c r
+  placed_old {r} q =
+      let x = q.hit in
       record {
         same = unchanged T H X;
+        count = refl;
         found = record {
           within = q.to;
-          is = den_node t.lower r p q.to ∙ (λ j. node (x.event j) (den T (x.failed j)) (den T (x.sound j)));
+          is = den_node t.lower r q.low q.to ∙ (λ j. node (x.event j) (den T (x.failed j)) (den T (x.sound j)));
         };
       }
 
-  module _ (lf : f < c + 2) (ls : s < c + 2) {r : ℕ} (r2 : r < 2) (q : Sought T c e f s r) where
+  module _ (lf : f < c + 2) (ls : s < c + 2) (miss : Absent T c e f s) where
     -- no number denotes it
     absent : Lacking T c (target T e f s)
     absent i l d = go (below_or_not i 2)
@@ -147,25 +148,26 @@ module _ {T H X : List ℕ} {c e f s : ℕ} (t : Store T H X c) where
             let (x, y, z) = same_node (sym (den_node t.lower i k l) ∙ d) in
             let u = t.lower.failed (i - 2) (omega arith) in
             let v = t.lower.sound (i - 2) (omega arith) in
-            q.miss r2 (i - 2) (omega arith) (record {
+            miss (i - 2) (omega arith) (record {
               event = x;
               failed = den_inj t.lower t.unique (omega arith) lf y;
               sound = den_inj t.lower t.unique (omega arith) ls z;
             })
 
     -- and there is no room
-    pub placed_none : length T < 3 * c + 3 → NoRoom T H X c (target T e f s) T H X
-    placed_none h = record { same = unchanged T H X; lacking = absent; full = let z = t.room in omega arith }
+    pub placed_none : length T < 3 * c + 3 → NoRoom T H X c (target T e f s) T H X c
+    placed_none h = record { same = unchanged T H X; count = refl; lacking = absent; full = let z = t.room in omega arith }
 
     -- or it is added
     pub placed_new : {h : ℕ} {T' : List ℕ} → First e f s (length H) h → 3 * c + 3 ≤ length T → Put T c e f s T'
-        → Grew T c (target T e f s) T' (set H h (c + 2)) (set X c (get_or H h 0)) (c + 2)
+        → Grew T c (target T e f s) T' (set H h (c + 2)) (set X c (get_or H h 0)) (c + 1) (c + 2)
     placed_new {h} {T'} first room p = record {
       lacking = absent;
       next = refl;
-      store = store_more t p first (q.miss r2) room lf ls;
+      count = refl;
+      store = store_more t p first miss room lf ls;
       grown = put_grown t p;
-      is = den_more t p first (q.miss r2) room lf ls;
+      is = den_more t p first miss room lf ls;
     }
 
 -- ---- what was placed is what was to be built
@@ -174,41 +176,41 @@ module _ {T H X : List ℕ} {c : ℕ} (t : Store T H X c) (D : Diagram) (n : is_
   kept : Unchanged T H X T' H' X' → Step (Is D) T c T' H' X' c
   kept u = subst (λ T'. Step (Is D) T c T' H' X' c) (sym u.nodes) (subst (λ H'. Step (Is D) T c T H' X' c) (sym u.heads) (subst (λ X'. Step (Is D) T c T H X' c) (sym u.links) (step_here t)))
 
-  pub placed_built : (p : Placed) → Puts T H X c D T' H' X' p → {r : Built} → r ≡ built_of c p → Builds (Is D) T c D T' H' X' r
-  placed_built p w e = subst (Builds (Is D) T c D T' H' X') (sym e) (go p w)
-    where
-      go : (p : Placed) → Puts T H X c D T' H' X' p → Builds (Is D) T c D T' H' X' (built_of c p)
-      go (Present r) w = record { step = kept w.same; found = subst (λ T'. Found T' c D r) (sym w.same.nodes) w.found }
-      go (Added r) w = record {
-        step = record {
-          store = w.store;
-          grown = w.grown;
-          wanted = λ i a b. let z : i ≡ r = let q = w.next in omega arith in let d = ap (den T') z ∙ w.is in record { is = d; node = ap is_node d ∙ n };
-        };
-        found = record { within = let q = w.next in omega arith; is = w.is };
-      }
-      go Full w = record {
-        step = kept w.same;
-        lacks = record {
-          full = w.full ∙ ap (λ T. length T / 3) (sym w.same.nodes);
-          part = D;
-          wanted = record { is = refl; node = n };
-          absent = subst (λ T'. Lacking T' c D) (sym w.same.nodes) w.lacking;
-        };
-      }
+  pub placed_built : (r : Result Built Full) → Puts T H X c D T' H' X' r → Builds (Is D) T c D T' H' X' r
+  placed_built (Ok b) (inl w) = record {
+    step = subst (Step (Is D) T c T' H' X') (sym w.count) (kept w.same);
+    found = record { within = let f = w.found.within in let q = w.count in omega arith; is = subst (λ T'. den T' b.node ≡ D) (sym w.same.nodes) w.found.is };
+  }
+  placed_built (Ok b) (inr w) = subst (λ k. Makes (Is D) T c D T' H' X' k b.node) (sym w.count) (record {
+    step = record {
+      store = w.store;
+      grown = w.grown;
+      wanted = λ i l h. let z : i ≡ b.node = let q = w.next in omega arith in let d = ap (den T') z ∙ w.is in record { is = d; node = ap is_node d ∙ n };
+    };
+    found = record { within = let q = w.next in omega arith; is = w.is };
+  })
+  placed_built (Err x) w = subst (Stops (Is D) T c T' H' X') (sym w.count) (record {
+    step = kept w.same;
+    lacks = record {
+      full = w.full ∙ ap (λ T. length T / 3) (sym w.same.nodes);
+      part = D;
+      wanted = record { is = refl; node = n };
+      absent = subst (λ T'. Lacking T' c D) (sym w.same.nodes) w.lacking;
+    };
+  })
 
 -- ---- a node with a rule for what is dropped
 
 module _ {T H X : List ℕ} {c : ℕ} (t : Store T H X c) (e : ℕ) {f s : ℕ} (lf : f < c + 2) (ls : s < c + 2) where
-  pub made_same : f ≡ s → Makes (Is (mk_d e (den T f) (den T s))) T c (mk_d e (den T f) (den T s)) T H X c f
-  made_same q = makes_here t (record { within = lf; is = sym (mk_same e (den T f) (den T s) (ap (den T) q)) })
+  pub made_same : f ≡ s → Makes (Is (mk_d e (den T f) (den T s))) T c (mk_d e (den T f) (den T s)) T H X c s
+  made_same q = makes_here t (record { within = ls; is = sym (mk_same e (den T f) (den T s) (ap (den T) q) ∙ ap (den T) q) })
 
   pub made_none : f ≡ 0 → Makes (Is (mk_z e (den T f) (den T s))) T c (mk_z e (den T f) (den T s)) T H X c s
   made_none q = makes_here t (record { within = ls; is = sym (mkz_none e (den T f) (den T s) (ap (den T) q ∙ den_0 T)) })
 
-  module _ (T' H' X' : List ℕ) (p : Placed) (w : Puts T H X c (target T e f s) T' H' X' p) {r : Built} (a : r ≡ built_of c p) where
+  module _ (T' H' X' : List ℕ) (r : Result Built Full) (w : Puts T H X c (target T e f s) T' H' X' r) where
     b : Builds (Is (target T e f s)) T c (target T e f s) T' H' X' r
-    b = placed_built t (target T e f s) refl T' H' X' p w a
+    b = placed_built t (target T e f s) refl T' H' X' r w
 
     pub made_node : f ≢ s → Builds (Is (mk_d e (den T f) (den T s))) T c (mk_d e (den T f) (den T s)) T' H' X' r
     made_node n = subst (λ D. Builds (Is D) T c D T' H' X' r) (sym (mk_node e (den T f) (den T s) (λ q. n (den_inj t.lower t.unique lf ls q)))) b

@@ -1,21 +1,13 @@
 -- The search along a chain of falling node numbers.
 -- Assumes nothing.
 use mathlib.Core.Path.{◌≡◌, sym, ◌∙◌, subst}
-use mathlib.Core.Bool.{true, false, true≢false, false≢true}
 use mathlib.Core.List.{List}
 use Prim.Native.Nat.{ℕ, ◌+◌, ◌-◌, ◌<◌, ◌≤◌}
 use native.Mathlib.Omega.{arith}
 use lib.ListN.{get_or, length}
 use Rattle.algebra.proofs.Base.{Three, below, beyond, equal, three}
-use Rattle.store.specs.Store.{first_slot, First, chain_at, Triple, Last, Store, Sought}
+use Rattle.store.specs.Store.{first_slot, First, chain_at, Triple, Absent, Last, Store, Stored}
 use Rattle.store.proofs.Slots.{same_chain}
-
--- what the test of one slot tells
-pub says_yes : {A : Type 0} → A → (true ≡ true → A) × (true ≡ false → A → ⊥)
-says_yes a = ((λ _. a), (λ p _. true≢false p))
-
-pub says_no : {A : Type 0} → (A → ⊥) → (false ≡ true → A) × (false ≡ false → A → ⊥)
-says_no n = ((λ p. absurd (false≢true p)), (λ _. n))
 
 -- node i, or one below it in its chain, is the triple, if any stored node is
 pub record Seek (T : List ℕ) (slots c e f s i : ℕ) : Type 0 where
@@ -51,8 +43,8 @@ module _ {T H X : List ℕ} {c e f s : ℕ} (t : Store T H X c) where
         go k r m x (equal l _ _) a = n (subst (λ y. Triple T y e f s) l x)
         go k r m x (beyond l _ _) a = q.none k (omega arith) m x
 
-pub seek_hit : {T : List ℕ} {slots c e f s i : ℕ} → 2 ≤ i → Seek T slots c e f s i → Triple T (i - 2) e f s → Sought T c e f s i
-seek_hit p q x = record { to = q.to; hit = λ _. x; miss = λ l. absurd (omega arith) }
+pub seek_hit : {T : List ℕ} {slots c e f s i : ℕ} → 2 ≤ i → Seek T slots c e f s i → Triple T (i - 2) e f s → Stored T c e f s i
+seek_hit p q x = record { low = p; to = q.to; hit = x }
 
-pub seek_miss : {T : List ℕ} {slots c e f s i : ℕ} → i < 2 → Seek T slots c e f s i → Sought T c e f s i
-seek_miss p q = record { to = q.to; hit = λ l. absurd (omega arith); miss = λ _ k l x. q.none k (omega arith) l x }
+pub seek_miss : {T : List ℕ} {slots c e f s i : ℕ} → i < 2 → Seek T slots c e f s i → Absent T c e f s
+seek_miss p q = λ k l x. q.none k (omega arith) l x

@@ -1,13 +1,14 @@
 -- What the functions that build diagrams answer: how the table grew, and the node that was made or why none could be.
 -- W says which nodes are wanted. Assumes nothing.
-use Rattle.std.specs.Prelude.{◌≡◌, true, List, ℕ, ◌+◌, ◌/◌, ◌<◌, ◌≤◌, length}
+use Rattle.std.specs.Prelude.{◌≡◌, true, List, ℕ, ◌+◌, ◌/◌, ◌<◌, ◌≤◌, length, Result, Ok, Err}
 use Rattle.paper.specs.Lists.{In}
 use Rattle.paper.specs.Diagrams.{Diagram, Reduced}
 use Rattle.algebra.specs.Operations.{subs, is_node}
 use Rattle.tables.specs.Table.{den}
 use Rattle.store.specs.Store.{Store, Grown}
+use Rattle.store.specs.Memo.{Keeps}
 use Rattle.store.specs.declared.Built.{Built}
-use Rattle.store.specs.declared.Built.TheVariants.{Done, Short}
+use Rattle.store.specs.declared.Full.{Full}
 
 -- E is the node D
 pub record Is (D E : Diagram) : Type 0 where
@@ -60,13 +61,22 @@ pub record Stops (W : Diagram → Type 0) (T : List ℕ) (c : ℕ) (T' H' X' : L
   pub lacks : Lacks W T' c'
 
 -- what building D answers
-abbrev pub Builds : (W : Diagram → Type 0) (T : List ℕ) (c : ℕ) (D : Diagram) (T' H' X' : List ℕ) → Built → Type 0
-Builds W T c D T' H' X' (Done r c') = Makes W T c D T' H' X' c' r
-Builds W T c D T' H' X' (Short c') = Stops W T c T' H' X' c'
+abbrev pub Builds : (W : Diagram → Type 0) (T : List ℕ) (c : ℕ) (D : Diagram) (T' H' X' : List ℕ) → Result Built Full → Type 0
+Builds W T c D T' H' X' (Ok b) = Makes W T c D T' H' X' b.count b.node
+Builds W T c D T' H' X' (Err x) = Stops W T c T' H' X' x.count
 
 -- what building the one node D answers, its branches being there
-abbrev pub BuildsOne : (T : List ℕ) (c : ℕ) (D : Diagram) (T' H' X' : List ℕ) → Built → Type 0
+abbrev pub BuildsOne : (T : List ℕ) (c : ℕ) (D : Diagram) (T' H' X' : List ℕ) → Result Built Full → Type 0
 BuildsOne T c D T' H' X' r = Builds (Is D) T c D T' H' X' r
+
+-- the node over two branches, kept as the answer to an operation
+pub record Finished (T M : List ℕ) (c : ℕ) (D : Diagram) (op f g : ℕ) (T' H' X' M' : List ℕ) (c' r : ℕ) : Type 0 where
+  pub makes : Makes (Is D) T c D T' H' X' c' r
+  pub keeps : Keeps M op f g r M'
+
+abbrev pub Finishes : (T M : List ℕ) (c : ℕ) (D : Diagram) (op f g : ℕ) (T' H' X' M' : List ℕ) → Result Built Full → Type 0
+Finishes T M c D op f g T' H' X' M' (Ok b) = Finished T M c D op f g T' H' X' M' b.count b.node
+Finishes T M c D op f g T' H' X' M' (Err x) = Stops (Is D) T c T' H' X' x.count
 
 -- every stored node is wanted
 pub record Only (W : Diagram → Type 0) (T : List ℕ) (c : ℕ) : Type 0 where

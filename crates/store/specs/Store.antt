@@ -1,7 +1,7 @@
 -- A table of nodes that grows and holds no triple twice, with the chains by which a triple is found.
 -- T is the table, H the heads of the chains, X the links, c the number of stored nodes.
 -- Assumes nothing.
-use Rattle.std.specs.Prelude.{◌≡◌, List, ℕ, ◌+◌, ◌-◌, ◌*◌, ◌/◌, ◌%◌, ◌<◌, ◌≤◌, get_or, length}
+use Rattle.std.specs.Prelude.{◌≡◌, List, ℕ, ◌+◌, ◌-◌, ◌*◌, ◌/◌, ◌%◌, ◌<◌, ◌≤◌, get_or, length, Option, Some, None}
 use Rattle.paper.specs.Limits.{most_numbers}
 use Rattle.tables.specs.Table.{event_at, failed_at, sound_at}
 use Rattle.tables.specs.Stored.{Lower, Unique, ZeroBehind, Kept}
@@ -65,8 +65,12 @@ pub record Put (T : List ℕ) (c e f s : ℕ) (T' : List ℕ) : Type 0 where
   pub same : (p : ℕ) → p < 3 * c → get_or T' p 0 ≡ get_or T p 0
   pub rest : (p : ℕ) → 3 * c + 3 ≤ p → get_or T' p 0 ≡ get_or T p 0
 
--- what the search answers: a stored node with the triple, or a number below 2 where there is none
-pub record Sought (T : List ℕ) (c e f s r : ℕ) : Type 0 where
+-- what the search answers: a stored node with the triple, or that there is none
+pub record Stored (T : List ℕ) (c e f s r : ℕ) : Type 0 where
+  pub low : 2 ≤ r
   pub to : r < c + 2
-  pub hit : 2 ≤ r → Triple T (r - 2) e f s
-  pub miss : r < 2 → Absent T c e f s
+  pub hit : Triple T (r - 2) e f s
+
+abbrev pub Sought : List ℕ → ℕ → ℕ → ℕ → ℕ → Option ℕ → Type 0
+Sought T c e f s (Some r) = Stored T c e f s r
+Sought T c e f s None = Absent T c e f s

@@ -3,31 +3,29 @@
 #![tactic(auto)]
 
 ghost use Rattle.std.specs.Prelude.{◌≡◌, true, false, ◌+◌, ◌*◌, ◌<◌, ◌≤◌, length};
-ghost use Rattle.paper.specs.Limits.{most_numbers};
 ghost use Rattle.paper.specs.Diagrams.{node, mk_d};
 ghost use Rattle.algebra.specs.Families.{mk_z};
 ghost use Rattle.tables.specs.Table.{den};
 ghost use Rattle.store.specs.Store.{mix, First, Triple, Store, Put, Sought};
-ghost use Rattle.store.specs.Building.{BuildsOne};
-ghost use Rattle.store.specs.Placing.{Puts, built_of};
+ghost use Rattle.store.specs.Building.{BuildsOne, Finishes};
+ghost use Rattle.store.specs.Placing.{Puts};
 ghost use Rattle.store.specs.Memo.{Places, Used, There, Place, Keeps, Recalls};
 
-// A node and the count of nodes after it; or the table is full. The count grew exactly if the node is new.
-#[derive(Clone, Copy)]
-pub enum Built {
-    Done(u32, usize),
-    Short(usize),
+// A node, and the count of nodes with it.
+#[derive(Clone, Copy, PartialEq, Eq, Debug)]
+pub struct Built {
+    pub node: u32,
+    pub count: usize,
 }
 
-// The number of a node that was there, or that was added; or no room for it.
-#[derive(Clone, Copy)]
-pub enum Placed {
-    Present(u32),
-    Added(u32),
-    Full,
+// No room for a node: the table is full at this count.
+#[derive(Clone, Copy, PartialEq, Eq, Debug)]
+pub struct Full {
+    pub count: usize,
 }
 
 // What the memo says: the result, or the place where it is to be kept.
+// By hand: a result that is still to be made is no error, as in a Result, and its place is no nothing, as in an Option.
 #[derive(Clone, Copy)]
 pub enum Known {
     Node(u32),
@@ -74,19 +72,10 @@ fn holds(nodes: &[u32], k: usize, e: u32, failed: u32, sound: u32) -> bool
     ensures no { result ≡ false → Triple nodes.now k e failed sound → ⊥ }
 {
     let at = 3 * k;
-    if nodes[at] != e {
-        return false;
-    }
-    if nodes[at + 1] != failed {
-        return false;
-    }
-    if nodes[at + 2] != sound {
-        return false;
-    }
-    true
+    nodes[at] == e && nodes[at + 1] == failed && nodes[at + 2] == sound
 }
 
-// The node in chain h that is the triple, or a number below 2.
+// The node in chain h that is the triple.
 fn find(
     nodes: &[u32],
     heads: &[u32],
@@ -96,7 +85,7 @@ fn find(
     e: u32,
     failed: u32,
     sound: u32,
-) -> u32
+) -> Option<u32>
     requires store { Store nodes.now heads.now next.now count }
     requires first { First e failed sound (length heads.now) h }
     ensures { Sought nodes.now count e failed sound result }
@@ -105,11 +94,11 @@ fn find(
     while 2 <= i {
         let k = (i - 2) as usize;
         if holds(nodes, k, e, failed, sound) {
-            return i;
+            return Some(i);
         }
         i = next[k];
     }
-    i
+    None
 }
 
 // Writes the triple into slot `count`.
@@ -123,7 +112,7 @@ fn put(nodes: &mut [u32], count: usize, e: u32, failed: u32, sound: u32)
     nodes[at + 2] = sound;
 }
 
-// The node that is the triple, added where no stored node is it; and whether it was.
+// The node that is the triple, added where no stored node is it: then the count grows.
 pub fn find_or_add(
     nodes: &mut [u32],
     heads: &mut [u32],
@@ -132,40 +121,31 @@ pub fn find_or_add(
     e: u32,
     failed: u32,
     sound: u32,
-) -> Placed
+) -> Result<Built, Full>
     requires store { Store nodes.old heads.old next.old count }
     requires failed_bound { failed < count + 2 }
     requires sound_bound { sound < count + 2 }
     ensures { Puts nodes.old heads.old next.old count (node e (den nodes.old failed) (den nodes.old sound)) nodes.new heads.new next.new result }
 {
     let h = first_slot(e, failed, sound, heads.len());
-    let r = find(nodes, heads, next, count, h, e, failed, sound);
-    if 2 <= r {
-        return Placed::Present(r);
+    if let Some(node) = find(nodes, heads, next, count, h, e, failed, sound) {
+        return Ok(Built { node, count });
     }
     if nodes.len() < 3 * count + 3 {
-        return Placed::Full;
+        return Err(Full { count });
     }
     put(nodes, count, e, failed, sound);
     next[count] = heads[h];
-    let number = (count + 2) as u32;
-    heads[h] = number;
-    Placed::Added(number)
+    let node = (count + 2) as u32;
+    heads[h] = node;
+    Ok(Built {
+        node,
+        count: count + 1,
+    })
 }
 
-// What a builder answers that wanted this one node of a table of `count` nodes.
-pub fn as_built(placed: Placed, count: usize) -> Built
-    requires { count ≤ most_numbers }
-    ensures { result ≡ built_of count placed }
-{
-    match placed {
-        Placed::Present(r) => Built::Done(r, count),
-        Placed::Added(r) => Built::Done(r, count + 1),
-        Placed::Full => Built::Short(count),
-    }
-}
-
-// The node of an event over two branches; where they are the same, the branch.
+// The node of an event over two branches; where the failed branch is the dropped one, the sound branch. A table of functions drops a branch
+// that is its sibling, a table of cuts one that is no set.
 pub fn make(
     nodes: &mut [u32],
     heads: &mut [u32],
@@ -174,50 +154,25 @@ pub fn make(
     e: u32,
     failed: u32,
     sound: u32,
-) -> Built
+    dropped: u32,
+) -> Result<Built, Full>
     requires store { Store nodes.old heads.old next.old count }
     requires failed_bound { failed < count + 2 }
     requires sound_bound { sound < count + 2 }
-    ensures { BuildsOne nodes.old count (mk_d e (den nodes.old failed) (den nodes.old sound)) nodes.new heads.new next.new result }
+    ensures function { dropped ≡ sound → BuildsOne nodes.old count (mk_d e (den nodes.old failed) (den nodes.old sound)) nodes.new heads.new next.new result }
+    ensures family { dropped ≡ 0 → BuildsOne nodes.old count (mk_z e (den nodes.old failed) (den nodes.old sound)) nodes.new heads.new next.new result }
 {
-    if failed == sound {
-        return Built::Done(failed, count);
+    if failed == dropped {
+        return Ok(Built { node: sound, count });
     }
-    let placed = find_or_add(nodes, heads, next, count, e, failed, sound);
-    as_built(placed, count)
-}
-
-// The same in a table of cuts; where the failed branch is no set, the sound branch.
-pub fn make_z(
-    nodes: &mut [u32],
-    heads: &mut [u32],
-    next: &mut [u32],
-    count: usize,
-    e: u32,
-    failed: u32,
-    sound: u32,
-) -> Built
-    requires store { Store nodes.old heads.old next.old count }
-    requires failed_bound { failed < count + 2 }
-    requires sound_bound { sound < count + 2 }
-    ensures { BuildsOne nodes.old count (mk_z e (den nodes.old failed) (den nodes.old sound)) nodes.new heads.new next.new result }
-{
-    if failed == 0 {
-        return Built::Done(sound, count);
-    }
-    let placed = find_or_add(nodes, heads, next, count, e, failed, sound);
-    as_built(placed, count)
+    find_or_add(nodes, heads, next, count, e, failed, sound)
 }
 
 // How many numbers of a memo of that length are used: whole quadruples, and no more than a hash of 32 bits reaches.
 pub fn used(length: usize) -> usize
     ensures { Used length result }
 {
-    let whole = length - length % 4;
-    if whole < 4294967296 {
-        return whole;
-    }
-    4294967296
+    (length - length % 4).min(4294967296)
 }
 
 // The place of an operation in the memo.
@@ -234,13 +189,7 @@ fn hit(memo: &[u32], at: usize, op: u32, f: u32, g: u32) -> bool
     requires { Place memo.now at }
     ensures { result ≡ true → There memo.now at op f g }
 {
-    if memo[at] != op {
-        return false;
-    }
-    if memo[at + 1] != f {
-        return false;
-    }
-    memo[at + 2] == g
+    memo[at] == op && memo[at + 1] == f && memo[at + 2] == g
 }
 
 // What the memo says of the operation.
@@ -264,4 +213,32 @@ pub fn keep(memo: &mut [u32], at: usize, op: u32, f: u32, g: u32, r: u32)
     memo[at + 1] = f;
     memo[at + 2] = g;
     memo[at + 3] = r;
+}
+
+// Makes the node over two branches, and keeps it in the memo as the answer to an operation.
+pub fn finish(
+    nodes: &mut [u32],
+    heads: &mut [u32],
+    next: &mut [u32],
+    memo: &mut [u32],
+    count: usize,
+    op: u32,
+    f: u32,
+    g: u32,
+    at: usize,
+    e: u32,
+    failed: u32,
+    sound: u32,
+    dropped: u32,
+) -> Result<Built, Full>
+    requires store { Store nodes.old heads.old next.old count }
+    requires failed_bound { failed < count + 2 }
+    requires sound_bound { sound < count + 2 }
+    requires place { Place memo.old at }
+    ensures function { dropped ≡ sound → Finishes nodes.old memo.old count (mk_d e (den nodes.old failed) (den nodes.old sound)) op f g nodes.new heads.new next.new memo.new result }
+    ensures family { dropped ≡ 0 → Finishes nodes.old memo.old count (mk_z e (den nodes.old failed) (den nodes.old sound)) op f g nodes.new heads.new next.new memo.new result }
+{
+    let built = make(nodes, heads, next, count, e, failed, sound, dropped)?;
+    keep(memo, at, op, f, g, built.node);
+    Ok(built)
 }

@@ -16,29 +16,26 @@ pub fn wide(x: u32) -> usize
     x as usize
 }
 
-// The three numbers in slot `k`.
+// The three numbers in slot `k`. A function for each: one that took the part as a number would have callers say `1` for the failed branch.
 pub fn event_at(nodes: &[u32], k: usize) -> usize
     requires { 3 * k + 2 < length nodes.now }
     ensures { result ≡ event_at nodes.now k }
 {
-    let p = 3 * k;
-    wide(nodes[p])
+    wide(nodes[3 * k])
 }
 
 pub fn failed_at(nodes: &[u32], k: usize) -> usize
     requires { 3 * k + 2 < length nodes.now }
     ensures { result ≡ failed_at nodes.now k }
 {
-    let p = 3 * k + 1;
-    wide(nodes[p])
+    wide(nodes[3 * k + 1])
 }
 
 pub fn sound_at(nodes: &[u32], k: usize) -> usize
     requires { 3 * k + 2 < length nodes.now }
     ensures { result ≡ sound_at nodes.now k }
 {
-    let p = 3 * k + 2;
-    wide(nodes[p])
+    wide(nodes[3 * k + 2])
 }
 
 // The same of node number `i`.
@@ -67,11 +64,7 @@ pub fn sound_of(nodes: &[u32], i: usize) -> usize
 pub fn clear(work: &mut [u32])
     ensures { work.new ≡ replicate (length work.old) 0 }
 {
-    let mut i = 0;
-    while i < work.len() {
-        work[i] = 0;
-        i += 1;
-    }
+    work.fill(0);
 }
 
 // Whether node `b` stands before node `i` and has a higher event than `e`.
@@ -138,12 +131,10 @@ fn nodes_ok(nodes: &[u32], n: usize, count: usize, cut: bool) -> bool
     requires { (3 * count ≤ length nodes.now) × (length nodes.now ≤ most_numbers) }
     ensures { Says result ((i : ℕ) → 2 ≤ i → i < count + 2 → Node n nodes.now i × Kind cut nodes.now i) }
 {
-    let mut i = 2;
-    while i < count + 2 {
+    for i in 2..count + 2 {
         if !node_ok(nodes, n, i, cut) {
             return false;
         }
-        i += 1;
     }
     true
 }

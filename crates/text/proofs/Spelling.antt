@@ -8,72 +8,19 @@ use native.Mathlib.Numerals.{add-one}
 use native.Mathlib.Omega.{arith}
 use lib.Dec.{eqb}
 use lib.ListN.{length, get_or, take, drop, drop_of_length-le}
-use lib.Seq.{slice-cons, length-take-le}
-use borrow.Author.Tests.{eq-eqb, ne_eqb}
+use lib.Seq.{drop-cons, length-take-le}
 use Rattle.paper.specs.Sets.{Set, members}
 use Rattle.paper.specs.Exporting.{decimal}
 use Rattle.paper.specs.Listing.{member, member_bytes, cut_bytes, sets_bytes}
 use Rattle.paper.proofs.Listing.{narrow, wide, bytes_cons, by_width}
 use Rattle.text.specs.Lines.{blank, line_end, behind, cut_line, cut_lines}
-use Rattle.text.specs.Places.{Front, said, from_kind, after, spelled}
+use Rattle.text.specs.Places.{Front, said, after, spelled}
 use Rattle.text.specs.declared.cuts.Place.{Place}
 use Rattle.text.specs.declared.cuts.Place.TheVariants.{Start, Event, Low, High, Behind}
 use Rattle.decimals.specs.Places.{Put}
 use Rattle.decimals.proofs.Putting.{put_none, put_then}
 use Rattle.decimals.proofs.Decimals.{byte_long, two_long}
 use Rattle.text.proofs.Putting.{put_counts}
-
--- ---- one byte
-
-is_end : (b : ℕ) → b ≡ 0x22 → eqb b 0x22 ≡ true
-is_end b q = eq-eqb b 0x22 q
-
-no_end : (b : ℕ) → (b ≡ 0x22 → ⊥) → eqb b 0x22 ≡ false
-no_end b q = ne_eqb b 0x22 q
-
--- behind a kind
-module _ (b : ℕ) where
-  pub from_end : b ≡ 0x22 → from_kind b ≡ Start
-  from_end q = rw (is_end b q) refl
-
-  module _ (n : b ≡ 0x22 → ⊥) where
-    pub from_wide : b ≡ 0x23 → from_kind b ≡ Low
-    from_wide q = rw (no_end b n, eq-eqb b 0x23 q) refl
-
-    pub from_narrow : (b ≡ 0x23 → ⊥) → from_kind b ≡ Event
-    from_narrow q = rw (no_end b n, ne_eqb b 0x23 q) refl
-
--- a kind, at the start of a cut and behind a member; and a number's bytes
-module _ {p : Place} (b : ℕ) where
-  pub start_from : p ≡ Start → after p b ≡ from_kind b
-  start_from e = rw e refl
-
-  pub behind_from : p ≡ Behind → after p b ≡ from_kind b
-  behind_from e = rw e refl
-
-  pub low_from : p ≡ Low → after p b ≡ High b
-  low_from e = rw e refl
-
-  pub kind_first : (b ≡ 0x22 → ⊥) → p ≡ Start → said p b ≡ []
-  kind_first q e = rw (e, no_end b q) refl
-
-  pub kind_next : (b ≡ 0x22 → ⊥) → p ≡ Behind → said p b ≡ blank
-  kind_next q e = rw (e, no_end b q) refl
-
-  pub end_first : b ≡ 0x22 → p ≡ Start → said p b ≡ line_end
-  end_first q e = rw (e, is_end b q) refl
-
-  pub end_next : b ≡ 0x22 → p ≡ Behind → said p b ≡ line_end
-  end_next q e = rw (e, is_end b q) refl
-
-  pub one_byte : p ≡ Event → said p b ≡ decimal b
-  one_byte e = rw e refl
-
-  pub low_byte : p ≡ Low → said p b ≡ []
-  low_byte e = rw e refl
-
-  pub high_byte : {l n : ℕ} → n ≡ l + 256 * b → p ≡ High l → said p b ≡ decimal n
-  high_byte q e = rw (e, q) refl
 
 -- ---- the loop
 
@@ -92,19 +39,18 @@ Byte Low = Unit {0}
 Byte (High low) = low < 256
 Byte Behind = Unit {0}
 
--- the text of the first i bytes stands at the front
-pub record Spelt (room : List ℕ) (used : ℕ) (text text' : List ℕ) (place : Place) (at i : ℕ) : Type 0 where
-  pub inside : used ≤ length room
-  pub long : 3 * used + 20 ≤ length text
-  pub low : i ≤ used
+-- the text of the first i bytes of l stands at the front
+pub record Spelt (l text text' : List ℕ) (place : Place) (at i : ℕ) : Type 0 where
+  pub long : 3 * length l + 20 ≤ length text
+  pub low : i ≤ length l
   pub byte : Byte place
   pub short : at + spare place ≤ 3 * i
   pub done : List ℕ
   pub put : Put text 0 done text' at
-  pub is : spelled Start (take used room) ≡ done ++ spelled place (drop i (take used room))
+  pub is : spelled Start l ≡ done ++ spelled place (drop i l)
 
-pub spell_none : (room : List ℕ) (used : ℕ) (text : List ℕ) → (used ≤ length room) × (3 * used + 20 ≤ length text) → Spelt room used text text Start 0 0
-spell_none room used text (h, k) = record { inside = h; long = k; low = omega arith; byte = tt; short = omega arith; done = []; put = put_none text 0 (omega arith); is = refl }
+pub spell_none : (room : List ℕ) (used : ℕ) (text : List ℕ) → (used ≤ length room) × (3 * used + 20 ≤ length text) → Spelt (take used room) text text Start 0 0
+spell_none room used text (h, k) = record { long = let z = length-take-le used room h in omega arith; low = omega arith; byte = tt; short = omega arith; done = []; put = put_none text 0 (omega arith); is = refl }
 
 kind_long : (t u : Bool) (l r : List ℕ) → length l ≤ 1 → length r ≤ 1 → length (cond t l r) + spare (cond t Start (cond u Low Event)) ≤ 3
 kind_long true u l r h k = omega arith
@@ -130,22 +76,21 @@ after_byte Low b h = h
 after_byte (High l) b h = tt
 after_byte Behind b h = kind_byte (eqb b 0x22) (eqb b 0x23)
 
-module _ {room : List ℕ} {used : ℕ} {text text' : List ℕ} {place : Place} {at i : ℕ} (s : Spelt room used text text' place at i) where
-  pub spell_room : i < used → at + 20 ≤ length text
+module _ {l text text' : List ℕ} {place : Place} {at i : ℕ} (s : Spelt l text text' place at i) where
+  pub spell_room : i < length l → at + 20 ≤ length text
   spell_room h = let l = s.long in let a = s.short in omega arith
 
-  pub spell_more : i < used → get_or room i 0 < 256 → {text'' : List ℕ} {at' : ℕ} {place' : Place} → Put text' at (said place (get_or room i 0)) text'' at' → place' ≡ after place (get_or room i 0)
-      → Spelt room used text text'' place' at' (i + 1)
+  pub spell_more : i < length l → get_or l i 0 < 256 → {text'' : List ℕ} {at' : ℕ} {place' : Place} → Put text' at (said place (get_or l i 0)) text'' at' → place' ≡ after place (get_or l i 0)
+      → Spelt l text text'' place' at' (i + 1)
   unfolding spelled
   spell_more h byte {text''} {at'} {place'} p e =
-      let b = get_or room i 0 in
+      let b = get_or l i 0 in
       let a = s.short in
-      let l = said_long place b s.byte byte in
+      let k = said_long place b s.byte byte in
       let w = ap spare e in
       let t = p.to in
-      let next : drop i (take used room) ≡ b ∷ drop (suc i) (take used room) = slice-cons i used room 0 h s.inside in
+      let next : drop i l ≡ b ∷ drop (suc i) l = drop-cons l i 0 h in
       record {
-        inside = s.inside;
         long = s.long;
         low = omega arith;
         byte = subst Byte (sym e) (after_byte place b byte);
@@ -154,16 +99,15 @@ module _ {room : List ℕ} {used : ℕ} {text text' : List ℕ} {place : Place} 
         put = put_then s.put p;
         is = s.is
             ∙ ap (λ (x : List ℕ). s.done ++ spelled place x) next
-            ∙ sym (append_assoc s.done (said place b) (spelled (after place b) (drop (suc i) (take used room))))
-            ∙ ap₂ (λ (q : Place) (k : ℕ). s.done ++ said place b ++ spelled q (drop k (take used room))) (sym e) (sym (add-one i));
+            ∙ sym (append_assoc s.done (said place b) (spelled (after place b) (drop (suc i) l)))
+            ∙ ap₂ (λ (q : Place) (k : ℕ). s.done ++ said place b ++ spelled q (drop k l)) (sym e) (sym (add-one i));
       }
 
-  pub spell_end : used ≤ i → Front at text' (spelled Start (take used room))
+  pub spell_end : length l ≤ i → Front at text' (spelled Start l)
   unfolding spelled
   spell_end h =
-      let l = length-take-le used room s.inside in
-      let z : spelled place (drop i (take used room)) ≡ [] = let m : length (take used room) ≤ i = omega arith in ap (spelled place) (drop_of_length-le (take used room) m) in
-      let e : spelled Start (take used room) ≡ s.done = s.is ∙ ap (λ (x : List ℕ). s.done ++ x) z ∙ append-nil s.done in
+      let z : spelled place (drop i l) ≡ [] = ap (spelled place) (drop_of_length-le l h) in
+      let e : spelled Start l ≡ s.done = s.is ∙ ap (λ (x : List ℕ). s.done ++ x) z ∙ append-nil s.done in
       subst (λ (x : List ℕ). Front at text' x) (sym e) (put_counts s.put refl)
 
 -- ---- the lines

@@ -22,33 +22,17 @@ pub enum Place {
     Behind,
 }
 
-fn wide_number(low: u8, high: u8) -> u64
-    ensures { result ≡ low + 256 * high }
-{
-    (low as u64) + 256 * (high as u64)
-}
-
 // Puts what a byte adds to the text.
 fn put_byte(text: &mut [u8], at: usize, place: Place, b: u8) -> usize
     requires { at + 20 ≤ length text.old }
     ensures { Put text.old at (said place b) text.new result }
 {
     match place {
-        Place::Start => {
-            if b == END {
-                return put(text, at, b"\n");
-            }
-            at
-        }
-        Place::Event => put_number(text, at, b as u64),
-        Place::Low => at,
-        Place::High(low) => put_number(text, at, wide_number(low, b)),
-        Place::Behind => {
-            if b == END {
-                return put(text, at, b"\n");
-            }
-            put(text, at, b" ")
-        }
+        Place::Start if b == END => put(text, at, b"\n"),
+        Place::Start | Place::Low => at,
+        Place::Event => put_number(text, at, u64::from(b)),
+        Place::High(low) => put_number(text, at, u64::from(u16::from_le_bytes([low, b]))),
+        Place::Behind => put(text, at, if b == END { b"\n" } else { b" " }),
     }
 }
 
@@ -56,13 +40,11 @@ fn put_byte(text: &mut [u8], at: usize, place: Place, b: u8) -> usize
 fn from_kind(b: u8) -> Place
     ensures { result ≡ from_kind b }
 {
-    if b == END {
-        return Place::Start;
+    match b {
+        END => Place::Start,
+        WIDE => Place::Low,
+        _ => Place::Event,
     }
-    if b == WIDE {
-        return Place::Low;
-    }
-    Place::Event
 }
 
 // The place behind a byte.
@@ -70,11 +52,9 @@ fn behind(place: Place, b: u8) -> Place
     ensures { result ≡ after place b }
 {
     match place {
-        Place::Start => from_kind(b),
-        Place::Event => Place::Behind,
+        Place::Start | Place::Behind => from_kind(b),
+        Place::Event | Place::High(_) => Place::Behind,
         Place::Low => Place::High(b),
-        Place::High(low) => Place::Behind,
-        Place::Behind => from_kind(b),
     }
 }
 
@@ -85,12 +65,9 @@ pub fn spell(room: &[u8], used: usize, text: &mut [u8]) -> usize
 {
     let mut place = Place::Start;
     let mut at = 0;
-    let mut i = 0;
-    while i < used {
-        let b = room[i];
-        at = put_byte(text, at, place, b);
-        place = behind(place, b);
-        i += 1;
+    for b in &room[..used] {
+        at = put_byte(text, at, place, *b);
+        place = behind(place, *b);
     }
     at
 }

@@ -4,10 +4,9 @@
 pub mod cuts; // cuts.rt: the lines of the cuts
 
 ghost use Rattle.std.specs.Prelude.{◌+◌, ◌≤◌, length};
-ghost use Rattle.paper.specs.Exporting.{decimal as decimalText};
+ghost use Rattle.paper.specs.Exporting.{decimal};
 ghost use Rattle.decimals.specs.Places.{Put};
-ghost use Rattle.text.specs.Lines.{line_of, pair_of};
-ghost use Rattle.text.specs.Lines.{refusal as refusalText, head as headText, top as top_text};
+ghost use Rattle.text.specs.Lines.{line_of, pair_of, refusal, head, top};
 ghost use Rattle.text.specs.Places.{Front};
 
 use decimals::{DIGITS, digits, put};
@@ -18,7 +17,7 @@ pub const ROOM: usize = 128;
 // Puts a number in decimal.
 pub fn put_number(text: &mut [u8], at: usize, n: u64) -> usize
     requires { at + 20 ≤ length text.old }
-    ensures { Put text.old at (decimalText n) text.new result }
+    ensures { Put text.old at (decimal n) text.new result }
 {
     let mut row = [0u8; DIGITS];
     let from = digits(n, &mut row);
@@ -49,14 +48,14 @@ fn put_pair(text: &mut [u8], word: &[u8], a: u64, between: &[u8], b: u64) -> usi
 
 // The line of a refusal.
 pub fn refusal(text: &mut [u8; ROOM], number: u8, place: usize) -> usize
-    ensures { Front result text.new (refusalText number place) }
+    ensures { Front result text.new (refusal number place) }
 {
-    put_pair(text, b"refused ", number as u64, b" at ", place as u64)
+    put_pair(text, b"refused ", u64::from(number), b" at ", place as u64)
 }
 
 // The lines before the cuts.
 pub fn head(text: &mut [u8; ROOM], events: usize, gates: usize, nodes: usize) -> usize
-    ensures { Front result text.new (headText events gates nodes) }
+    ensures { Front result text.new (head events gates nodes) }
 {
     let a = put_line(text, 0, b"events ", events as u64);
     let b = put_line(text, a, b"gates ", gates as u64);
@@ -66,7 +65,7 @@ pub fn head(text: &mut [u8; ROOM], events: usize, gates: usize, nodes: usize) ->
 
 // The line behind the cuts.
 pub fn top(text: &mut [u8; ROOM], low: u64, high: u64) -> usize
-    ensures { Front result text.new (top_text low high) }
+    ensures { Front result text.new (top low high) }
 {
     put_pair(text, b"top ", low, b" ", high)
 }

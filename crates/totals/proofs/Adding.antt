@@ -1,7 +1,8 @@
 -- One tree's counts added to the totals; and the number that is due after it.
 -- Assumes nothing.
 use mathlib.Core.Path.{◌≡◌, refl, sym, ap, ◌∙◌, subst}
-use mathlib.Core.Bool.{Bool, true, false, true≢false, false≢true}
+use mathlib.Core.Bool.{true}
+use Rattle.std.specs.Prelude.{Option, Some, None, Result, Ok, Err, is_ok}
 use mathlib.Core.List.{List}
 use Prim.Native.Nat.{ℕ, ◌+◌, ◌≤◌, ◌<◌}
 use native.Mathlib.Decide.{ℕ_discrete}
@@ -9,6 +10,8 @@ use native.Mathlib.Omega.{arith}
 use lib.ListN.{length, get_or, set, length-set}
 use lib.Seq.{get_or-set_same, get_or-set_other}
 use Rattle.paper.specs.Limits.{limits}
+use Rattle.paper.specs.Refusals.{number_of}
+use Rattle.paper.specs.declared.refusal.Refusal.{Refusal}
 use Rattle.paper.specs.Sizes.{largest, sizes}
 use Rattle.tables.specs.Table.{den}
 use Rattle.tables.specs.Lent.{Lent}
@@ -50,11 +53,11 @@ module _ {c : ℕ → ℕ} {k : ℕ} {L L' : List ℕ} (s : Adding c k L L') whe
   pub added_all : k ≤ sizes → sizes ≤ k → Adding c sizes L L'
   added_all a b = let q : k ≡ sizes = omega arith in subst (λ x. Adding c x L L') q s
 
-pub added_no : {c : ℕ → ℕ} {L L' : List ℕ} → Beyond c L → Added c L L' false
-added_no b = record { fits = λ q. absurd (false≢true q); over = λ _. b }
+pub added_no : {c : ℕ → ℕ} {L L' : List ℕ} → Beyond c L → Added c L L' None
+added_no b = record { fits = λ q. cc; over = λ _. b }
 
-pub added_yes : {c : ℕ → ℕ} {L L' : List ℕ} → Adding c sizes L L' → Added c L L' true
-added_yes a = record { fits = λ _. a; over = λ q. absurd (true≢false q) }
+pub added_yes : {c : ℕ → ℕ} {L L' : List ℕ} → Adding c sizes L L' → Added c L L' (Some tt)
+added_yes a = record { fits = λ _. a; over = λ q. cc }
 
 -- numbers that are equal below the number of sizes are added alike
 module _ {c d : ℕ → ℕ} {L : List ℕ} (e : (k : ℕ) → k < sizes → c k ≡ d k) where
@@ -70,6 +73,10 @@ module _ {c d : ℕ → ℕ} {L : List ℕ} (e : (k : ℕ) → k < sizes → c k
   beyond_same b = record { size = b.size; within = b.within; large = subst (λ x. largest < get_or L b.size 0 + x) (e b.size b.within) b.large }
 
 -- ---- what a tree's own counting says
+
+pub ok_number : {A : Type 0} (r : Result A Refusal) → true ≡ is_ok r → number_of r ≡ 0
+ok_number (Ok _) q = refl
+ok_number (Err why) q = cc
 
 pub areas_enough : {T C B W R : List ℕ} → Areas T B W R → sizes ≤ length C → Enough T C B W R
 areas_enough a c = record { counts = c; less = a.less; work = a.work; reached = a.reached }
@@ -98,28 +105,21 @@ module _ {T : List ℕ} {c root number place : ℕ} {C B W R C' B' W' R' : List 
       go (too_many w n t r y) = let q = r.number_is in absurd (omega arith)
       go (done w n f r y) = r.counts
 
-  -- 19 by the tree itself
-  pub due_own : {due : ℕ} {L : List ℕ} → (number ≡ 0 → ⊥) → due ≡ 0 → Due (counts_of (den T root)) due L L 19
-  due_own {due} {L} z e = record { stays = λ n. absurd (n e); fits = λ _ q. absurd (omega arith); over = λ _ _. (refl, tally_over z L) }
+  -- not by the tree itself
+  pub due_own : {before : Option (Unit {0})} {L : List ℕ} → (number ≡ 0 → ⊥) → before ≡ Some tt → Due (counts_of (den T root)) before L L None
+  due_own {before} {L} z e = record { stays = λ _. refl; fits = λ _ q. cc; over = λ _ _. tally_over z L }
 
-  -- 19 by a total, or all is added
-  pub due_over : {due : ℕ} {L L' : List ℕ} {r : Bool} → number ≡ 0 → due ≡ 0 → r ≡ false → Added (numbers_of C') L L' r → Due (counts_of (den T root)) due L L' 19
-  due_over z e q a = record { stays = λ n. absurd (n e); fits = λ _ p. absurd (omega arith); over = λ _ _. (refl, beyond_same (tally_counts z) (a.over q)) }
+  -- not by a total, or all is added
+  pub due_added : {before : Option (Unit {0})} {L L' : List ℕ} {r : Option (Unit {0})} → number ≡ 0 → before ≡ Some tt → Added (numbers_of C') L L' r → Due (counts_of (den T root)) before L L' r
+  due_added z e a = record { stays = λ n. cc; fits = λ _ q. adding_same (tally_counts z) (a.fits q); over = λ _ q. beyond_same (tally_counts z) (a.over q) }
 
-  pub due_none : {due : ℕ} {L L' : List ℕ} {r : Bool} → number ≡ 0 → due ≡ 0 → r ≡ true → Added (numbers_of C') L L' r → Due (counts_of (den T root)) due L L' 0
-  due_none z e q a = record { stays = λ n. absurd (n e); fits = λ _ _. adding_same (tally_counts z) (a.fits q); over = λ _ n. absurd (n refl) }
-
--- 19 is due already
-pub due_still : {c : ℕ → ℕ} {due : ℕ} {L : List ℕ} → (due ≡ 0 → ⊥) → Due c due L L due
-due_still n = record { stays = λ _. refl; fits = λ z. absurd (n z); over = λ z. absurd (n z) }
+-- not since before
+pub due_still : {c : ℕ → ℕ} {before : Option (Unit {0})} {L : List ℕ} → before ≡ None → Due c before L L None
+due_still n = record { stays = λ _. refl; fits = λ z q. cc; over = λ z q. cc }
 
 -- the same of equal numbers
-pub due_same : {c d : ℕ → ℕ} {due r : ℕ} {L L' : List ℕ} → ((k : ℕ) → k < sizes → c k ≡ d k) → Due c due L L' r → Due d due L L' r
-due_same e s = record {
-  stays = s.stays;
-  fits = λ z q. adding_same e (s.fits z q);
-  over = λ z n. let (q, b) = s.over z n in (q, beyond_same e b);
-}
+pub due_same : {c d : ℕ → ℕ} {before r : Option (Unit {0})} {L L' : List ℕ} → ((k : ℕ) → k < sizes → c k ≡ d k) → Due c before L L' r → Due d before L L' r
+due_same e s = record { stays = s.stays; fits = λ z q. adding_same e (s.fits z q); over = λ z n. beyond_same e (s.over z n) }
 
 -- ---- the end
 

@@ -1,6 +1,6 @@
 -- Counts added to totals: inner promises, for the proof of the folder's call.
 -- Assumes nothing.
-use Rattle.std.specs.Prelude.{◌≡◌, Bool, true, false, List, ℕ, ◌+◌, ◌/◌, ◌≤◌, ◌<◌, length, get_or}
+use Rattle.std.specs.Prelude.{◌≡◌, Option, Some, None, List, ℕ, ◌+◌, ◌/◌, ◌≤◌, ◌<◌, length, get_or}
 use Rattle.paper.specs.Limits.{limits}
 use Rattle.paper.specs.Diagrams.{Diagram}
 use Rattle.paper.specs.Sizes.{count_of, largest, sizes, sizes_area}
@@ -34,15 +34,15 @@ pub record Beyond (c : ℕ → ℕ) (L : List ℕ) : Type 0 where
   pub large : largest < get_or L size 0 + c size
 
 -- all are added, or not all can be
-pub record Added (c : ℕ → ℕ) (L L' : List ℕ) (r : Bool) : Type 0 where
-  pub fits : r ≡ true → Adding c sizes L L'
-  pub over : r ≡ false → Beyond c L
+pub record Added (c : ℕ → ℕ) (L L' : List ℕ) (r : Option (Unit {0})) : Type 0 where
+  pub fits : r ≡ Some tt → Adding c sizes L L'
+  pub over : r ≡ None → Beyond c L
 
--- the number that is due after one more tree: the one that was due, 19 where some sum is too large, or 0, and all are added
-pub record Due (c : ℕ → ℕ) (due : ℕ) (L L' : List ℕ) (r : ℕ) : Type 0 where
-  pub stays : (due ≡ 0 → ⊥) → r ≡ due
-  pub fits : due ≡ 0 → r ≡ 0 → Adding c sizes L L'
-  pub over : due ≡ 0 → (r ≡ 0 → ⊥) → (r ≡ 19) × Beyond c L
+-- whether all fits, after one more tree: where it did not before, it does not; otherwise all are added, or some sum is too large
+pub record Due (c : ℕ → ℕ) (before : Option (Unit {0})) (L L' : List ℕ) (r : Option (Unit {0})) : Type 0 where
+  pub stays : before ≡ None → r ≡ None
+  pub fits : before ≡ Some tt → r ≡ Some tt → Adding c sizes L L'
+  pub over : before ≡ Some tt → r ≡ None → Beyond c L
 
 -- the counts C at the end: with 0 the totals L are written, with another number they stay
 pub record Ends (number : ℕ) (C L C' : List ℕ) : Type 0 where

@@ -4,6 +4,7 @@ use mathlib.Core.Path.{◌≡◌, refl}
 use mathlib.Core.Bool.{true, false}
 use mathlib.Core.List.{List, [], ◌∷◌, ◌++◌, map}
 use Prim.Native.Nat.{ℕ, zero, suc, ◌+◌, ◌*◌, ◌/◌, ◌%◌}
+use Rattle.std.specs.Prelude.{Result, Ok, Err}
 use Rattle.paper.specs.Limits.{limits, old_limits, most_bytes}
 use Rattle.paper.specs.Answers.{Verdict}
 use Rattle.rules.specs.Format.{record_of, body_of}
@@ -11,11 +12,12 @@ use Rattle.rules.specs.Rules.{admit_of, step_of}
 use Rattle.records.specs.Thresholds.{starved_by}
 use Rattle.records.specs.Uses.{among, lowest_unused, unused_of}
 use Rattle.records.specs.Judge.{judge, outcome, run, next_step, close_of}
-use Rattle.rules.specs.declared.Answer.TheVariants.{OutOfPlace, Count, Narrow, Reference}
+use Rattle.rules.specs.declared.Refusal.{Refusal}
+use Rattle.rules.specs.declared.Refusal.TheVariants.{OutOfPlace, Count, Narrow, Reference}
 use Rattle.rules.specs.declared.format.Record.{Record}
 use Rattle.rules.specs.declared.format.Record.TheVariants.{Event, SitedEvent, Gate, EventInput, WideInput}
 use Rattle.rules.specs.declared.judge.Step.{Step}
-use Rattle.rules.specs.declared.judge.Step.TheVariants.{AddEvent, AddGate, AddInput, Refused}
+use Rattle.rules.specs.declared.judge.Step.TheVariants.{AddEvent, AddGate, AddInput}
 
 record Row : Type 0 where
   bytes : List ℕ
@@ -102,37 +104,37 @@ record Met : Type 0 where
   inputs : ℕ
   left : ℕ
   next : Record
-  step : Step
+  step : Result Step Refusal
 
-abbrev met : ℕ → ℕ → ℕ → ℕ → Record → Step → Met
+abbrev met : ℕ → ℕ → ℕ → ℕ → Record → Result Step Refusal → Met
 met events gates inputs left next step = record { events = events; gates = gates; inputs = inputs; left = left; next = next; step = step }
 
 -- what it does, at place 9
-abbrev does : Met → Step
+abbrev does : Met → Result Step Refusal
 does m = admit_of limits most_bytes (record { at = 9; events = m.events; sited = false; gates = m.gates; inputs = m.inputs; left = m.left }) m.next
 
 abbrev steps : List Met
 steps =
     -- the 1,024th event, and the 1,025th
-    met 1023 0 0 0 (Event 5) (AddEvent 5 0 false 14)
-    ∷ met 1024 0 0 0 (Event 5) (Refused (Count 9))
+    met 1023 0 0 0 (Event 5) (Ok (AddEvent 5 0 false 14))
+    ∷ met 1024 0 0 0 (Event 5) (Err (Count 9))
     -- the first event with a site; one behind events without is out of place before it is one too many
-    ∷ met 0 0 0 0 (SitedEvent 5 65535) (AddEvent 5 65535 true 16)
-    ∷ met 1024 0 0 0 (SitedEvent 5 1) (Refused (OutOfPlace 9))
+    ∷ met 0 0 0 0 (SitedEvent 5 65535) (Ok (AddEvent 5 65535 true 16))
+    ∷ met 1024 0 0 0 (SitedEvent 5 1) (Err (OutOfPlace 9))
     -- the last event named by one byte, the first by two, and the last of all
-    ∷ met 1024 1 0 1 (EventInput 255) (AddInput 255 11)
-    ∷ met 1024 1 0 1 (WideInput 255) (Refused (Narrow 9))
-    ∷ met 1024 1 0 1 (WideInput 256) (AddInput 256 12)
-    ∷ met 1024 1 0 1 (WideInput 1023) (AddInput 1023 12)
-    ∷ met 1024 1 0 1 (WideInput 1024) (Refused (Reference 9))
+    ∷ met 1024 1 0 1 (EventInput 255) (Ok (AddInput 255 11))
+    ∷ met 1024 1 0 1 (WideInput 255) (Err (Narrow 9))
+    ∷ met 1024 1 0 1 (WideInput 256) (Ok (AddInput 256 12))
+    ∷ met 1024 1 0 1 (WideInput 1023) (Ok (AddInput 1023 12))
+    ∷ met 1024 1 0 1 (WideInput 1024) (Err (Reference 9))
     -- the 512th gate, and the 513th
-    ∷ met 1 511 511 0 (Gate 2 0 1) (AddGate 2 0 1 11)
-    ∷ met 1 512 512 0 (Gate 2 0 1) (Refused (Count 9))
+    ∷ met 1 511 511 0 (Gate 2 0 1) (Ok (AddGate 2 0 1 11))
+    ∷ met 1 512 512 0 (Gate 2 0 1) (Err (Count 9))
     -- 4,096 inputs in all, and 4,097
-    ∷ met 1 63 4032 0 (Gate 2 0 64) (AddGate 2 0 64 11)
-    ∷ met 1 63 4033 0 (Gate 2 0 64) (Refused (Count 9))
-    ∷ met 1 64 4095 0 (Gate 2 0 1) (AddGate 2 0 1 11)
-    ∷ met 1 64 4096 0 (Gate 2 0 1) (Refused (Count 9))
+    ∷ met 1 63 4032 0 (Gate 2 0 64) (Ok (AddGate 2 0 64 11))
+    ∷ met 1 63 4033 0 (Gate 2 0 64) (Err (Count 9))
+    ∷ met 1 64 4095 0 (Gate 2 0 1) (Ok (AddGate 2 0 1 11))
+    ∷ met 1 64 4096 0 (Gate 2 0 1) (Err (Count 9))
     ∷ []
 
 -- THE LIMITS of events, of gates and of inputs in all, at the record that meets them; trees that have so many are run in crate reading

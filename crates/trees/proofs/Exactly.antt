@@ -12,6 +12,7 @@ use lib.ListN.{length, get_or, take, drop, length-drop}
 use lib.Seq.{take_all, get_or-take}
 use lib.Dec.{eqb}
 use borrow.Author.Tests.{lt-ltb, eqb-true, eqb-false}
+use Rattle.std.specs.Prelude.{None, Result, Ok, Err}
 use Rattle.paper.specs.Limits.{limits, billion}
 use Rattle.paper.specs.Lists.{sum}
 use Rattle.paper.specs.Flat.{gates_from}
@@ -23,14 +24,14 @@ use Rattle.records.specs.Thresholds.{starved_by}
 use Rattle.records.specs.Memory.{memory}
 use Rattle.records.specs.Trees.{Lawful, tree_of}
 use Rattle.records.specs.declared.Event.{Event as EventOf}
-use Rattle.records.specs.declared.uses.Found.TheVariants.{Nothing}
 use Rattle.judging.specs.Bytes.{bytes_of, held_event}
 use Rattle.trees.specs.Exactly.{AreBytes, Accepted, BytesOfLawful, SameTree}
+use Rattle.rules.specs.declared.Refusal.{Refusal}
 use Rattle.rules.specs.declared.format.Record.{Record}
 use Rattle.rules.specs.declared.format.Record.TheVariants.{End}
 use Rattle.rules.specs.declared.judge.State.{State}
 use Rattle.rules.specs.declared.judge.Step.{Step}
-use Rattle.rules.specs.declared.judge.Step.TheVariants.{AddEvent, AddGate, AddInput, Close, Refused}
+use Rattle.rules.specs.declared.judge.Step.TheVariants.{AddEvent, AddGate, AddInput, Close}
 use Rattle.rules.proofs.Cases.{either}
 use Rattle.rules.proofs.Steps.{Sound, OnInput, sound_step}
 use Rattle.records.proofs.Closing.{closes_none, unused_none}
@@ -48,12 +49,12 @@ use Rattle.trees.proofs.Fronts.{events_in, gates_in, event_in_lem, kind_in, leas
 
 -- ---- no item is unused
 
-all_used : (n i from : ℕ) (inputs : List ℕ) → ((x : ℕ) → i ≤ x → x < i + n → among (from + x) inputs ≡ true) → lowest_unused n i from inputs ≡ Nothing
+all_used : (n i from : ℕ) (inputs : List ℕ) → ((x : ℕ) → i ≤ x → x < i + n → among (from + x) inputs ≡ true) → lowest_unused n i from inputs ≡ None
 unfolding lowest_unused
 all_used zero i from inputs h = refl
 all_used (suc n) i from inputs h = rw (h i (omega arith) (omega arith), lowest_unused) (all_used n (i + 1) from inputs (λ x low high. h x (omega arith) (omega arith)))
 
-none_unused : {b : Book} → Lawful limits b → (x : Book) → SameTree b x → Nothing ≡ unused_by x
+none_unused : {b : Book} → Lawful limits b → (x : Book) → SameTree b x → None ≡ unused_by x
 none_unused {b} l x s =
     rw (s.sited, s.events, s.sizes, s.inputs)
     (unused_none b.sited (length b.events) b.sizes x.places b.inputs
@@ -164,8 +165,8 @@ module _ {b : Book} (l : Lawful limits b) where
     is : run limits turns own x ≡ accept book
     same : SameTree b book
 
-  close_ends : (turns : ℕ) (x : Book) → Kept x → Along (memory b) x → next_step limits own x ≡ Close
-      → Sound (length own) (counts x) (record_of limits (drop x.at own)) Close → Ends (suc turns) x
+  close_ends : (turns : ℕ) (x : Book) → Kept x → Along (memory b) x → next_step limits own x ≡ Ok Close
+      → Sound (length own) (counts x) (record_of limits (drop x.at own)) (Ok Close) → Ends (suc turns) x
   close_ends turns x k v q on =
       let (allEvents, none, allGates) = is_end (memory b) (counts x) (ap tag (sym (there (memory b) x v) ∙ on.shape)) in
       let same : SameTree b x = same_tree l v k (omega (arith, events_in b)) (omega (arith, gates_in b)) none in
@@ -173,18 +174,18 @@ module _ {b : Book} (l : Lawful limits b) where
 
   ends_step : (turns : ℕ) (x : Book) → Kept x → Along (memory b) x → length own - x.at ≤ suc turns
       → ((y : Book) → Kept y → Along (memory b) y → y.at ≤ length own → length own - y.at ≤ turns → Ends (suc turns) y)
-      → (z : Step) → next_step limits own x ≡ z → Sound (length own) (counts x) (record_of limits (drop x.at own)) z → Welcome z → Ends (suc (suc turns)) x
-  ends_step turns x k v h on (AddEvent c site sited next) q s w =
+      → (z : Result Step Refusal) → next_step limits own x ≡ z → Sound (length own) (counts x) (record_of limits (drop x.at own)) z → Welcome z → Ends (suc (suc turns)) x
+  ends_step turns x k v h on (Ok (AddEvent c site sited next)) q s w =
       let e = on (add_event x c site sited next) (kept_event k s) (along_event (memory b) x v c site sited next s) s.inside (omega (arith, s.further)) in
       record { book = e.book; is = run_event (suc turns) own x c site sited next q ∙ e.is; same = e.same }
-  ends_step turns x k v h on (AddGate kind j n next) q s w =
+  ends_step turns x k v h on (Ok (AddGate kind j n next)) q s w =
       let e = on (add_gate x kind j n next) (kept_gate k (drop x.at own) refl s) (along_gate (memory b) x v kind j n next s) s.inside (omega (arith, s.further)) in
       record { book = e.book; is = run_gate (suc turns) own x kind j n next q ∙ e.is; same = e.same }
-  ends_step turns x k v h on (AddInput i next) q s w =
+  ends_step turns x k v h on (Ok (AddInput i next)) q s w =
       let e = on (add_input x i next) (kept_input k s (next_fed own x q)) (along_input (memory b) x v i next s) s.inside (omega (arith, s.further)) in
       record { book = e.book; is = run_input (suc turns) own x i next q ∙ e.is; same = e.same }
-  ends_step turns x k v h on Close q s w = close_ends (suc turns) x k v q s
-  ends_step turns x k v h on (Refused a) q s w = absurd w
+  ends_step turns x k v h on (Ok Close) q s w = close_ends (suc turns) x k v q s
+  ends_step turns x k v h on (Err a) q s w = absurd w
 
   rules_take : (x : Book) → Kept x → Along (memory b) x → Welcome (step_of limits own (counts x))
   unfolding step_of
@@ -194,21 +195,21 @@ module _ {b : Book} (l : Lawful limits b) where
   unfolding next_step
   step_taken x k v a = go (step_of limits own (counts x)) (rules_take x k v) (sound_step own (counts x) a)
     where
-      go : (z : Step) → Welcome z → Sound (length own) (counts x) (record_of limits (drop x.at own)) z → Welcome (threshold_step x z)
-      go (AddEvent c site sited next) w s = tt
-      go (AddGate kind j n next) w s = tt
-      go (AddInput i next) w s = rw (input_fed k v s) tt
-      go Close w s = tt
-      go (Refused r) w s = w
+      go : (z : Result Step Refusal) → Welcome z → Sound (length own) (counts x) (record_of limits (drop x.at own)) z → Welcome (threshold_step x z)
+      go (Ok (AddEvent c site sited next)) w s = tt
+      go (Ok (AddGate kind j n next)) w s = tt
+      go (Ok (AddInput i next)) w s = rw (input_fed k v s) tt
+      go (Ok Close) w s = tt
+      go (Err r) w s = w
 
   -- the last byte is the end record's
   ends_last : (x : Book) → Kept x → Along (memory b) x → x.at ≤ length own → length own - x.at ≤ 0
-      → (z : Step) → next_step limits own x ≡ z → Sound (length own) (counts x) (record_of limits (drop x.at own)) z → Welcome z → Ends 1 x
-  ends_last x k v a h (AddEvent c site sited next) q s w = absurd (omega (arith, s.further, s.inside))
-  ends_last x k v a h (AddGate kind j n next) q s w = absurd (omega (arith, s.further, s.inside))
-  ends_last x k v a h (AddInput i next) q s w = absurd (omega (arith, s.further, s.inside))
-  ends_last x k v a h Close q s w = close_ends 0 x k v q s
-  ends_last x k v a h (Refused a') q s w = absurd w
+      → (z : Result Step Refusal) → next_step limits own x ≡ z → Sound (length own) (counts x) (record_of limits (drop x.at own)) z → Welcome z → Ends 1 x
+  ends_last x k v a h (Ok (AddEvent c site sited next)) q s w = absurd (omega (arith, s.further, s.inside))
+  ends_last x k v a h (Ok (AddGate kind j n next)) q s w = absurd (omega (arith, s.further, s.inside))
+  ends_last x k v a h (Ok (AddInput i next)) q s w = absurd (omega (arith, s.further, s.inside))
+  ends_last x k v a h (Ok Close) q s w = close_ends 0 x k v q s
+  ends_last x k v a h (Err a') q s w = absurd w
 
   ends : (turns : ℕ) (x : Book) → Kept x → Along (memory b) x → x.at ≤ length own → length own - x.at ≤ turns → Ends (suc turns) x
   ends zero x k v a h = ends_last x k v a h (next_step limits own x) refl (sound_next own x a) (step_taken x k v a)

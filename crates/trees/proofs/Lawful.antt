@@ -10,17 +10,16 @@ use lib.ListN.{length, get_or, take, drop, length-take, length-map}
 use lib.Seq.{get_or-drop, get_or-take, take_all}
 use lib.Dec.{ltb, eqb}
 use borrow.Author.Tests.{ltb-true, ltb-false, eqb-false}
+use Rattle.std.specs.Prelude.{Option, Some, None}
 use Rattle.paper.specs.Limits.{limits}
 use Rattle.paper.specs.Lists.{sum}
-use Rattle.paper.specs.Trees.{Input, event, Gate, events, InputBelow, InputsBelow, GateBelow, TreeBelow}
+use Rattle.paper.specs.Trees.{Input, Gate, events, InputBelow, InputsBelow, GateBelow, TreeBelow}
 use Rattle.paper.specs.Flat.{gates_from, failed_from, input_of, gate_of, gates_of}
 use Rattle.rules.specs.Format.{event_length}
 use Rattle.records.specs.Uses.{among, lowest_unused, unused_of}
 use Rattle.rules.specs.Rules.{wrong_k, Fits}
 use Rattle.records.specs.Judge.{Book, accept, outcome}
 use Rattle.records.specs.Trees.{Lawful, tree_of, InputLower, InputsLower, GateLower, TreeLower}
-use Rattle.records.specs.declared.uses.Found.{Found}
-use Rattle.records.specs.declared.uses.Found.TheVariants.{At, Nothing}
 use Rattle.rules.proofs.Cases.{if_elim, either}
 use Rattle.records.proofs.Sums.{sum_take, sum_rises}
 use Rattle.records.proofs.Starving.{distinct_few}
@@ -28,16 +27,16 @@ use Rattle.records.proofs.Runs.{Closed, accepted_keeps}
 
 -- ---- no item is unused
 
-used_step : (n i from : ℕ) (inputs : List ℕ) → lowest_unused (suc n) i from inputs ≡ Nothing
-    → (among (from + i) inputs ≡ true) × (lowest_unused n (i + 1) from inputs ≡ Nothing)
+used_step : (n i from : ℕ) (inputs : List ℕ) → lowest_unused (suc n) i from inputs ≡ None
+    → (among (from + i) inputs ≡ true) × (lowest_unused n (i + 1) from inputs ≡ None)
 unfolding lowest_unused
 used_step n i from inputs e = go (among (from + i) inputs) refl
   where
-    go : (b : Bool) → among (from + i) inputs ≡ b → (among (from + i) inputs ≡ true) × (lowest_unused n (i + 1) from inputs ≡ Nothing)
+    go : (b : Bool) → among (from + i) inputs ≡ b → (among (from + i) inputs ≡ true) × (lowest_unused n (i + 1) from inputs ≡ None)
     go true q = (q, rw (q, lowest_unused) at e)
-    go false q = let d : At i ≡ Nothing = rw (q, lowest_unused) at e in let z : ◌≡◌ {A = ℕ} 0 1 = cc in absurd (omega arith)
+    go false q = let d : Some i ≡ None = rw (q, lowest_unused) at e in let z : ◌≡◌ {A = ℕ} 0 1 = cc in absurd (omega arith)
 
-used_each : (n i from : ℕ) (inputs : List ℕ) → lowest_unused n i from inputs ≡ Nothing → (x : ℕ) → i ≤ x → x < i + n → among (from + x) inputs ≡ true
+used_each : (n i from : ℕ) (inputs : List ℕ) → lowest_unused n i from inputs ≡ None → (x : ℕ) → i ≤ x → x < i + n → among (from + x) inputs ≡ true
 used_each zero i from inputs e x low high = absurd (omega arith)
 used_each (suc n) i from inputs e x low high =
     let (here, on) = used_step n i from inputs e in
@@ -45,18 +44,18 @@ used_each (suc n) i from inputs e x low high =
     (λ q. used_each n (i + 1) from inputs on x (omega (arith, ltb-true i x q)) (omega arith))
     (λ q. let same : x ≡ i = omega (arith, ltb-false i x q) in rw same here)
 
-nothing_unused : (sited : Bool) (n : ℕ) (sizes places inputs : List ℕ) → unused_of sited n sizes places inputs ≡ Nothing
-    → (lowest_unused n 0 0 inputs ≡ Nothing) × (lowest_unused (length sizes - 1) 0 gates_from inputs ≡ Nothing)
+nothing_unused : (sited : Bool) (n : ℕ) (sizes places inputs : List ℕ) → unused_of sited n sizes places inputs ≡ None
+    → (lowest_unused n 0 0 inputs ≡ None) × (lowest_unused (length sizes - 1) 0 gates_from inputs ≡ None)
 unfolding unused_of
 nothing_unused sited n sizes places inputs e = first (lowest_unused n 0 0 inputs) refl
   where
-    second : lowest_unused n 0 0 inputs ≡ Nothing → (f : Found) → lowest_unused (length sizes - 1) 0 gates_from inputs ≡ f → (lowest_unused n 0 0 inputs ≡ Nothing) × (lowest_unused (length sizes - 1) 0 gates_from inputs ≡ Nothing)
-    second p (At g) q = let d : At (get_or places g 0) ≡ Nothing = rw (p, q, unused_of) at e in let z : ◌≡◌ {A = ℕ} 0 1 = cc in absurd (omega arith)
-    second p Nothing q = (p, q)
+    second : lowest_unused n 0 0 inputs ≡ None → (f : Option ℕ) → lowest_unused (length sizes - 1) 0 gates_from inputs ≡ f → (lowest_unused n 0 0 inputs ≡ None) × (lowest_unused (length sizes - 1) 0 gates_from inputs ≡ None)
+    second p (Some g) q = let d : Some (get_or places g 0) ≡ None = rw (p, q, unused_of) at e in let z : ◌≡◌ {A = ℕ} 0 1 = cc in absurd (omega arith)
+    second p None q = (p, q)
 
-    first : (f : Found) → lowest_unused n 0 0 inputs ≡ f → (lowest_unused n 0 0 inputs ≡ Nothing) × (lowest_unused (length sizes - 1) 0 gates_from inputs ≡ Nothing)
-    first (At i) q = let d : At (event_length sited * i) ≡ Nothing = rw (q, unused_of) at e in let z : ◌≡◌ {A = ℕ} 0 1 = cc in absurd (omega arith)
-    first Nothing q = second q (lowest_unused (length sizes - 1) 0 gates_from inputs) refl
+    first : (f : Option ℕ) → lowest_unused n 0 0 inputs ≡ f → (lowest_unused n 0 0 inputs ≡ None) × (lowest_unused (length sizes - 1) 0 gates_from inputs ≡ None)
+    first (Some i) q = let d : Some (event_length sited * i) ≡ None = rw (q, unused_of) at e in let z : ◌≡◌ {A = ℕ} 0 1 = cc in absurd (omega arith)
+    first None q = second q (lowest_unused (length sizes - 1) 0 gates_from inputs) refl
 
 right_k : (kind k n : ℕ) → wrong_k kind k n ≡ false → kind ≡ 4 → (1 ≤ k) × (k ≤ n)
 right_k kind k n e q =

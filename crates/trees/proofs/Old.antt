@@ -12,6 +12,7 @@ use native.Mathlib.Numerals.{add-one}
 use lib.ListN.{length, drop}
 use lib.Dec.{ltb, leb}
 use borrow.Author.Tests.{ltb-true, ltb-false, leb-false, le-leb, lt-leb, le-ltb}
+use Rattle.std.specs.Prelude.{Result, Ok, Err}
 use Rattle.paper.specs.Limits.{limits, old_limits, billion}
 use Rattle.paper.specs.Answers.{Verdict}
 use Rattle.rules.specs.Answers.{verdict}
@@ -21,12 +22,13 @@ use Rattle.records.specs.Judge.{Book, start, counts, add_event, add_gate, add_in
 use Rattle.records.specs.Memory.{memory}
 use Rattle.writing.specs.Writes.{write_of, wrote}
 use Rattle.trees.specs.Exactly.{AreBytes}
-use Rattle.rules.specs.declared.Answer.TheVariants.{Done, UnknownKind, Count}
+use Rattle.rules.specs.declared.Refusal.{Refusal}
+use Rattle.rules.specs.declared.Refusal.TheVariants.{UnknownKind, Count}
 use Rattle.rules.specs.declared.format.Record.{Record}
 use Rattle.rules.specs.declared.format.Record.TheVariants.{Missing, Unknown, Short, Event, SitedEvent, Gate, EventInput, GateInput, WideInput, End}
 use Rattle.rules.specs.declared.judge.State.{State}
 use Rattle.rules.specs.declared.judge.Step.{Step}
-use Rattle.rules.specs.declared.judge.Step.TheVariants.{AddEvent, AddGate, AddInput, Close, Refused}
+use Rattle.rules.specs.declared.judge.Step.TheVariants.{AddEvent, AddGate, AddInput, Close}
 use Rattle.rules.proofs.Cases.{either, ≤_or, Newer, old_record, old_sited}
 use Rattle.rules.proofs.Steps.{OnEvent, Sound, IsInput}
 use Rattle.records.proofs.Pad.{length_▷}
@@ -60,12 +62,12 @@ old_admit len s (GateInput g) w = refl
 old_admit len s (WideInput e) w = refl
 old_admit len s End w = refl
 
-threshold_welcome : (b : Book) (x : Step) → Welcome (threshold_step b x) → Welcome x
-threshold_welcome b (AddEvent c site sited next) w = tt
-threshold_welcome b (AddGate kind k n next) w = tt
-threshold_welcome b (AddInput i next) w = tt
-threshold_welcome b Close w = tt
-threshold_welcome b (Refused a) w = w
+threshold_welcome : (b : Book) (x : Result Step Refusal) → Welcome (threshold_step b x) → Welcome x
+threshold_welcome b (Ok (AddEvent c site sited next)) w = tt
+threshold_welcome b (Ok (AddGate kind k n next)) w = tt
+threshold_welcome b (Ok (AddInput i next)) w = tt
+threshold_welcome b (Ok Close) w = tt
+threshold_welcome b (Err a) w = w
 
 module _ (bytes : List ℕ) where
   old_step : (s : State) → Welcome (step_of old_limits bytes s) → step_of limits bytes s ≡ step_of old_limits bytes s
@@ -82,26 +84,26 @@ module _ (bytes : List ℕ) where
   old_next b w = ap (threshold_step b) (old_step (counts b) (threshold_welcome b (step_of old_limits bytes (counts b)) w))
 
   module _ (b' : Book) where
-    on_welcome : (turns : ℕ) (b : Book) (x : Step) → onward old_limits turns bytes b x ≡ accept b' → Welcome x
-    on_welcome turns b (AddEvent c site sited next) e = tt
-    on_welcome turns b (AddGate kind k n next) e = tt
-    on_welcome turns b (AddInput i next) e = tt
-    on_welcome turns b Close e = tt
-    on_welcome turns b (Refused a) e = let z : ◌≡◌ {A = ℕ} 0 1 = cc in absurd (omega arith)
+    on_welcome : (turns : ℕ) (b : Book) (x : Result Step Refusal) → onward old_limits turns bytes b x ≡ accept b' → Welcome x
+    on_welcome turns b (Ok (AddEvent c site sited next)) e = tt
+    on_welcome turns b (Ok (AddGate kind k n next)) e = tt
+    on_welcome turns b (Ok (AddInput i next)) e = tt
+    on_welcome turns b (Ok Close) e = tt
+    on_welcome turns b (Err a) e = let z : ◌≡◌ {A = ℕ} 0 1 = cc in absurd (omega arith)
 
     old_onward : (turns : ℕ) (b : Book) → ((x : Book) → run old_limits turns bytes x ≡ accept b' → run limits turns bytes x ≡ accept b')
-        → (x : Step) → onward old_limits turns bytes b x ≡ accept b' → onward limits turns bytes b x ≡ accept b'
-    old_onward turns b on (AddEvent c site sited next) e = on (add_event b c site sited next) e
-    old_onward turns b on (AddGate kind k n next) e = on (add_gate b kind k n next) e
-    old_onward turns b on (AddInput i next) e = on (add_input b i next) e
-    old_onward turns b on Close e = e
-    old_onward turns b on (Refused a) e = e
+        → (x : Result Step Refusal) → onward old_limits turns bytes b x ≡ accept b' → onward limits turns bytes b x ≡ accept b'
+    old_onward turns b on (Ok (AddEvent c site sited next)) e = on (add_event b c site sited next) e
+    old_onward turns b on (Ok (AddGate kind k n next)) e = on (add_gate b kind k n next) e
+    old_onward turns b on (Ok (AddInput i next)) e = on (add_input b i next) e
+    old_onward turns b on (Ok Close) e = e
+    old_onward turns b on (Err a) e = e
 
     old_run : (turns : ℕ) (b : Book) → run old_limits turns bytes b ≡ accept b' → run limits turns bytes b ≡ accept b'
     unfolding run
     old_run zero b e = e
     old_run (suc turns) b e =
-        let x : Step = next_step old_limits bytes b in
+        let x : Result Step Refusal = next_step old_limits bytes b in
         let further : onward old_limits turns bytes b x ≡ accept b' = sym (run_step old_limits turns bytes b x refl) ∙ e in
         run_step limits turns bytes b x (old_next b (on_welcome turns b x further)) ∙ old_onward turns b (old_run turns) x further
 
@@ -112,7 +114,7 @@ module _ (bytes : List ℕ) where
 
     -- and the same bytes again
     pub old_writes : AreBytes bytes → (room : List ℕ) → outcome old_limits bytes ≡ accept b' → length bytes ≤ length room
-        → write_of limits (memory b') room ≡ wrote Done (length bytes) (bytes ++ drop (length bytes) room)
+        → write_of limits (memory b') room ≡ wrote (Ok (length bytes)) (bytes ++ drop (length bytes) room)
     old_writes good room e h = write_gives_back bytes room good b' (old_reads e) h
 
 -- ---- an old reader stops at the 257th event
@@ -163,13 +165,13 @@ module _ (bytes : List ℕ) where
     one_form : mixed (counts b) false ≡ false
     one_form = not_mixed (counts b) false plain_before
 
-    taken_event : length b.events < old_limits.events → next_step old_limits bytes b ≡ AddEvent c site sited next
+    taken_event : length b.events < old_limits.events → next_step old_limits bytes b ≡ Ok (AddEvent c site sited next)
     unfolding next_step
     taken_event few =
         rw (met_event, le-ltb 0 (length b.sizes) (omega (arith, on.first)), one_form, lt-leb old_limits.events (length b.events) few, le-ltb billion c on.chance)
-        (λ i. AddEvent c (sym (on.plain none) i) (sym none i) (sym next_is i))
+        (λ i. Ok (AddEvent c (sym (on.plain none) i) (sym none i) (sym next_is i)))
 
-    stopped_event : length b.events ≡ old_limits.events → next_step old_limits bytes b ≡ Refused (Count b.at)
+    stopped_event : length b.events ≡ old_limits.events → next_step old_limits bytes b ≡ Err (Count b.at)
     unfolding next_step
     stopped_event full =
         rw (met_event, le-ltb 0 (length b.sizes) (omega (arith, on.first)), one_form, le-leb old_limits.events (length b.events) (omega arith))
@@ -187,7 +189,7 @@ module _ (bytes : List ℕ) where
           rw length_▷ (omega arith),
           λ _. record {
             turns = m;
-            same = a.same ∙ run_step old_limits a.turns bytes b (AddEvent c site sited next) (taken_event less)
+            same = a.same ∙ run_step old_limits a.turns bytes b (Ok (AddEvent c site sited next)) (taken_event less)
                 ∙ ap (λ (n : ℕ). run old_limits n bytes (add_event b c site sited next)) e;
             enough = h;
             place = rw length_▷ (omega (arith, next_is, a.place));
@@ -195,7 +197,7 @@ module _ (bytes : List ℕ) where
         ))
         (λ q.
         let full : length b.events ≡ old_limits.events = omega (arith, ltb-false (length b.events) old_limits.events q) in
-        inl (a.same ∙ run_step old_limits a.turns bytes b (Refused (Count b.at)) (stopped_event full)
+        inl (a.same ∙ run_step old_limits a.turns bytes b (Err (Count b.at)) (stopped_event full)
         ∙ ap (λ (p : ℕ). refuse (Count p)) (a.place ∙ ap (λ (n : ℕ). length_of 1 * n) full)))
 
   stops_event : (b : Book) (c site : ℕ) (sited : Bool) (next : ℕ) → OnEvent (length bytes) (counts b) (record_of limits (drop b.at bytes)) c site sited next
@@ -242,13 +244,13 @@ module _ (bytes : List ℕ) where
   abbrev Unheard : Type 0
   Unheard = outcome old_limits bytes ≡ refuse (UnknownKind 0)
 
-  first_step : {c site : ℕ} → record_of limits (drop 0 bytes) ≡ SitedEvent c site → next_step old_limits bytes start ≡ Refused (UnknownKind 0)
+  first_step : {c site : ℕ} → record_of limits (drop 0 bytes) ≡ SitedEvent c site → next_step old_limits bytes start ≡ Err (UnknownKind 0)
   unfolding next_step step_of
   first_step e = rw (old_sited (drop 0 bytes) e)
 
   first_unheard : {c site : ℕ} → record_of limits (drop 0 bytes) ≡ SitedEvent c site → Unheard
   unfolding outcome
-  first_unheard e = rw add-one (run_step old_limits (length bytes) bytes start (Refused (UnknownKind 0)) (first_step e))
+  first_unheard e = rw add-one (run_step old_limits (length bytes) bytes start (Err (UnknownKind 0)) (first_step e))
 
   -- where an event has a site, the first has
   abbrev Sites : Book → Type 0
@@ -335,9 +337,9 @@ module _ (bytes : List ℕ) (b' : Book) where
 
     takes_step : (turns : ℕ) (b : Book) → Kept b
         → ((x : Book) → Kept x → x.at ≤ length bytes → run limits turns bytes x ≡ accept b' → Takes turns x)
-        → run limits (suc turns) bytes b ≡ accept b' → (x : Step) → next_step limits bytes b ≡ x
+        → run limits (suc turns) bytes b ≡ accept b' → (x : Result Step Refusal) → next_step limits bytes b ≡ x
         → Sound (length bytes) (counts b) (met b) x → Takes (suc turns) b
-    takes_step turns b k on e (AddEvent c site sited next) q s =
+    takes_step turns b k on e (Ok (AddEvent c site sited next)) q s =
         let (more, form, is) = on (add_event b c site sited next) (kept_event k s) s.inside (sym (run_event turns bytes b c site sited next q) ∙ e) in
         let one : length b.events + 1 ≤ length b'.events = rw length_▷ at more in
         let less : length b.events < old_limits.events = omega arith in
@@ -345,20 +347,20 @@ module _ (bytes : List ℕ) (b' : Book) where
         let shape : met b ≡ Event c = s.shape ∙ ap (λ (x : Bool). event_in x c site) (is_form ∙ plain) in (
           omega arith,
           λ some. s.same some ∙ is_form,
-          run_step old_limits turns bytes b (AddEvent c site sited next) (same_next b (λ w. rw shape at w) (λ _. less) ∙ q) ∙ is,
+          run_step old_limits turns bytes b (Ok (AddEvent c site sited next)) (same_next b (λ w. rw shape at w) (λ _. less) ∙ q) ∙ is,
         )
-    takes_step turns b k on e (AddGate kind j n next) q s =
+    takes_step turns b k on e (Ok (AddGate kind j n next)) q s =
         let (more, form, is) = on (add_gate b kind j n next) (kept_gate k (drop b.at bytes) refl s) s.inside (sym (run_gate turns bytes b kind j n next q) ∙ e) in
-        (more, form, run_step old_limits turns bytes b (AddGate kind j n next) (same_next b (λ w. rw s.shape at w) (λ z. absurd (omega (arith, rw s.shape at z))) ∙ q) ∙ is)
-    takes_step turns b k on e (AddInput i next) q s =
+        (more, form, run_step old_limits turns bytes b (Ok (AddGate kind j n next)) (same_next b (λ w. rw s.shape at w) (λ z. absurd (omega (arith, rw s.shape at z))) ∙ q) ∙ is)
+    takes_step turns b k on e (Ok (AddInput i next)) q s =
         let (more, form, is) = on (add_input b i next) (kept_input k s (next_fed bytes b q)) s.inside (sym (run_input turns bytes b i next q) ∙ e) in
         let plain : Newer (met b) → ⊥ = not_wide (length b.events) (omega arith) (met b) s.input in
-        (more, form, run_step old_limits turns bytes b (AddInput i next) (same_next b plain (λ z. absurd (not_event (length b.events) (met b) s.input z)) ∙ q) ∙ is)
-    takes_step turns b k on e Close q s =
+        (more, form, run_step old_limits turns bytes b (Ok (AddInput i next)) (same_next b plain (λ z. absurd (not_event (length b.events) (met b) s.input z)) ∙ q) ∙ is)
+    takes_step turns b k on e (Ok Close) q s =
         let closed : close_of b ≡ accept b' = sym (run_close turns bytes b q) ∙ e in
         let all : length b.events ≡ length b'.events = ap (λ (x : Book). length x.events) (close_is b b' closed) in
-        (omega arith, (λ _. ap (λ (x : Book). x.sited) (close_is b b' closed)), run_step old_limits turns bytes b Close (same_next b (λ w. rw s.shape at w) (λ z. absurd (omega (arith, rw s.shape at z))) ∙ q) ∙ closed)
-    takes_step turns b k on e (Refused a) q s =
+        (omega arith, (λ _. ap (λ (x : Book). x.sited) (close_is b b' closed)), run_step old_limits turns bytes b (Ok Close) (same_next b (λ w. rw s.shape at w) (λ z. absurd (omega (arith, rw s.shape at z))) ∙ q) ∙ closed)
+    takes_step turns b k on e (Err a) q s =
         let d : refuse a ≡ accept b' = sym (run_refused turns bytes b a q) ∙ e in let z : ◌≡◌ {A = ℕ} 0 1 = cc in absurd (omega arith)
 
     takes : (turns : ℕ) (b : Book) → Kept b → b.at ≤ length bytes → run limits turns bytes b ≡ accept b' → Takes turns b

@@ -1,7 +1,6 @@
 -- Input that is longer than any tree is decided by its first bytes.
 -- Assumes nothing.
 use mathlib.Core.Path.{◌≡◌, refl, sym, ap, ◌∙◌}
-use mathlib.Core.Bool.{true}
 use mathlib.Core.List.{List}
 use Prim.Native.Nat.{ℕ, zero, suc, ◌+◌, ◌-◌, ◌≤◌, ◌<◌}
 use native.Mathlib.Omega.{arith}
@@ -10,16 +9,18 @@ use lib.ListN.{length, get_or, take, drop, length-drop}
 use lib.Seq.{get_or-drop, get_or-take, length-take-le, take_all}
 use lib.Dec.{ltb}
 use borrow.Author.Tests.{lt-ltb, le-ltb, ne_eqb, ltb-true, ltb-false}
+use Rattle.std.specs.Prelude.{Result, Ok, Err}
 use Rattle.paper.specs.Limits.{limits, most_bytes}
 use Rattle.rules.specs.Format.{byte, length_of, body_of, record_of}
 use Rattle.rules.specs.Longest.{longest_run}
 use Rattle.rules.specs.Rules.{admit_of, step_of}
 use Rattle.records.specs.Judge.{Book, start, counts, add_event, add_gate, add_input, threshold_step, next_step, run, outcome, judge}
+use Rattle.rules.specs.declared.Refusal.{Refusal}
 use Rattle.rules.specs.declared.format.Record.{Record}
 use Rattle.rules.specs.declared.format.Record.TheVariants.{Missing, Unknown, Short, Event, SitedEvent, Gate, EventInput, GateInput, WideInput, End}
 use Rattle.rules.specs.declared.judge.State.{State}
 use Rattle.rules.specs.declared.judge.Step.{Step}
-use Rattle.rules.specs.declared.judge.Step.TheVariants.{AddEvent, AddGate, AddInput, Close, Refused}
+use Rattle.rules.specs.declared.judge.Step.TheVariants.{AddEvent, AddGate, AddInput, Close}
 use Rattle.rules.proofs.Cases.{either, front, known, length_small}
 use Rattle.rules.proofs.Steps.{Sound}
 use Rattle.records.proofs.Keeping.{Kept, kept_start, kept_event, kept_gate, kept_input, kept_near}
@@ -88,17 +89,17 @@ module _ (bytes : List ℕ) (n : ℕ) (long : n ≤ length bytes) (past : decide
 
   lock_step : (k m : ℕ) (b : Book) → Kept b → length bytes - b.at ≤ suc k → n - b.at ≤ suc m
       → ((x : Book) → Kept x → length bytes - x.at ≤ k → n - x.at ≤ m → run limits (suc k) bytes x ≡ run limits (suc m) pre x)
-      → (x : Step) → next_step limits bytes b ≡ x → Sound (length bytes) (counts b) (record_of limits (drop b.at bytes)) x
+      → (x : Result Step Refusal) → next_step limits bytes b ≡ x → Sound (length bytes) (counts b) (record_of limits (drop b.at bytes)) x
       → run limits (suc (suc k)) bytes b ≡ run limits (suc (suc m)) pre b
-  lock_step k m b f h g on (AddEvent c site sited next) q s =
+  lock_step k m b f h g on (Ok (AddEvent c site sited next)) q s =
       run_event (suc k) bytes b c site sited next q ∙ on (add_event b c site sited next) (kept_event f s) (omega arith) (omega arith) ∙ sym (run_event (suc m) pre b c site sited next (same_step b f ∙ q))
-  lock_step k m b f h g on (AddGate kind j z next) q s =
+  lock_step k m b f h g on (Ok (AddGate kind j z next)) q s =
       run_gate (suc k) bytes b kind j z next q ∙ on (add_gate b kind j z next) (kept_gate f (drop b.at bytes) refl s) (omega arith) (omega arith)
       ∙ sym (run_gate (suc m) pre b kind j z next (same_step b f ∙ q))
-  lock_step k m b f h g on (AddInput i next) q s =
+  lock_step k m b f h g on (Ok (AddInput i next)) q s =
       run_input (suc k) bytes b i next q ∙ on (add_input b i next) (kept_input f s (next_fed bytes b q)) (omega arith) (omega arith) ∙ sym (run_input (suc m) pre b i next (same_step b f ∙ q))
-  lock_step k m b f h g on Close q s = run_close (suc k) bytes b q ∙ sym (run_close (suc m) pre b (same_step b f ∙ q))
-  lock_step k m b f h g on (Refused a) q s = run_refused (suc k) bytes b a q ∙ sym (run_refused (suc m) pre b a (same_step b f ∙ q))
+  lock_step k m b f h g on (Ok Close) q s = run_close (suc k) bytes b q ∙ sym (run_close (suc m) pre b (same_step b f ∙ q))
+  lock_step k m b f h g on (Err a) q s = run_refused (suc k) bytes b a q ∙ sym (run_refused (suc m) pre b a (same_step b f ∙ q))
 
   lock : (k m : ℕ) (b : Book) → Kept b → length bytes - b.at ≤ k → n - b.at ≤ m → run limits (suc k) bytes b ≡ run limits (suc m) pre b
   lock zero m b f h g = absurd (omega (arith, kept_near f))

@@ -1,13 +1,14 @@
 -- Writing an accepted tree gives the bytes that were read; and the bytes that a write gives are read as the tree that they tell.
 -- Assumes nothing.
 use mathlib.Core.Path.{◌≡◌, refl, sym, ap, ◌∙◌}
-use mathlib.Core.Bool.{Bool, true}
+use mathlib.Core.Bool.{Bool}
 use mathlib.Core.List.{List, [], ◌∷◌, ◌++◌, append_assoc, append-nil}
 use Prim.Native.Nat.{ℕ, zero, suc, ◌+◌, ◌-◌, ◌≤◌, ◌<◌}
 use native.Mathlib.Omega.{arith}
 use lib.ListN.{length, get_or, drop, length-append, drop_of_length-le}
 use lib.Seq.{drop-drop, get_or-drop, get_or-append_seam}
 use borrow.Author.Tests.{lt-ltb}
+use Rattle.std.specs.Prelude.{Option, None, Result, Ok, Err}
 use Rattle.paper.specs.Limits.{limits}
 use Rattle.paper.specs.Lists.{sum}
 use Rattle.rules.specs.Format.{event_in, record_of, width_of, encode}
@@ -18,14 +19,12 @@ use Rattle.records.specs.Trees.{Lawful}
 use Rattle.writing.specs.Sites.{lost_site}
 use Rattle.writing.specs.Writes.{write_of, wrote}
 use Rattle.records.specs.declared.Event.{Event as EventOf}
-use Rattle.rules.specs.declared.Answer.TheVariants.{Done}
+use Rattle.rules.specs.declared.Refusal.{Refusal}
 use Rattle.records.specs.declared.Tree.{Tree}
-use Rattle.records.specs.declared.uses.Found.{Found}
-use Rattle.records.specs.declared.uses.Found.TheVariants.{Nothing}
 use Rattle.rules.specs.declared.format.Record.{Record}
 use Rattle.rules.specs.declared.format.Record.TheVariants.{Gate, End}
 use Rattle.rules.specs.declared.judge.Step.{Step}
-use Rattle.rules.specs.declared.judge.Step.TheVariants.{AddEvent, AddGate, AddInput, Close, Refused}
+use Rattle.rules.specs.declared.judge.Step.TheVariants.{AddEvent, AddGate, AddInput, Close}
 use Rattle.records.proofs.Pad.{length_▷, pad_get_d}
 use Rattle.rules.proofs.Cases.{if_elim}
 use Rattle.rules.proofs.Steps.{Sound}
@@ -84,7 +83,7 @@ module _ (bytes : List ℕ) (good : (i : ℕ) → get_or bytes i 0 < 256) (b' : 
       rw (lt-ltb (length l) limits.events h, q)
       (ap (λ (e : EventOf). event_in sited e.chance e.site) (pad_get_d limits.events no_event b'.events (length l) no_event (more_long l _ m) ∙ more_at l _ _ m))
 
-  back_event : (b : Book) (c site : ℕ) (sited : Bool) (next : ℕ) → Kept b → Sound (length bytes) (counts b) (record_of limits (drop b.at bytes)) (AddEvent c site sited next)
+  back_event : (b : Book) (c site : ℕ) (sited : Bool) (next : ℕ) → Kept b → Sound (length bytes) (counts b) (record_of limits (drop b.at bytes)) (Ok (AddEvent c site sited next))
       → Back (add_event b c site sited next) → Back b
   unfolding memory
   back_event b c site sited next f on (later, rest, still) =
@@ -114,7 +113,7 @@ module _ (bytes : List ℕ) (good : (i : ℕ) → get_or bytes i 0 < 256) (b' : 
   number_there : (top : ℕ) (l l' : List ℕ) (x g : ℕ) → length l ≡ g → More (◌▷◌ l x) l' → get_or (pad top 0 l') g 0 ≡ x
   number_there top l l' x g e m = rw (← e) (pad_get_d top 0 l' (length l) 0 (more_long l x m) ∙ more_at l x 0 m)
 
-  back_gate : (b : Book) (kind k n next : ℕ) → Kept b → Sound (length bytes) (counts b) (record_of limits (drop b.at bytes)) (AddGate kind k n next)
+  back_gate : (b : Book) (kind k n next : ℕ) → Kept b → Sound (length bytes) (counts b) (record_of limits (drop b.at bytes)) (Ok (AddGate kind k n next))
       → Back (add_gate b kind k n next) → Back b
   unfolding memory
   back_gate b kind k n next f on (later, rest, still) =
@@ -139,7 +138,7 @@ module _ (bytes : List ℕ) (good : (i : ℕ) → get_or bytes i 0 < 256) (b' : 
         λ some. all,
       )
 
-  back_input : (b : Book) (i next : ℕ) → Kept b → Sound (length bytes) (counts b) (record_of limits (drop b.at bytes)) (AddInput i next)
+  back_input : (b : Book) (i next : ℕ) → Kept b → Sound (length bytes) (counts b) (record_of limits (drop b.at bytes)) (Ok (AddInput i next))
       → Back (add_input b i next) → Back b
   unfolding memory
   back_input b i next f on (later, rest, still) =
@@ -160,7 +159,7 @@ module _ (bytes : List ℕ) (good : (i : ℕ) → get_or bytes i 0 < 256) (b' : 
         λ _. all,
       )
 
-  back_end : (b : Book) → b ≡ b' → Sound (length bytes) (counts b) (record_of limits (drop b.at bytes)) Close → Back b
+  back_end : (b : Book) → b ≡ b' → Sound (length bytes) (counts b) (record_of limits (drop b.at bytes)) (Ok Close) → Back b
   unfolding memory
   back_end b e on =
       let none_left : drop 1 (drop b.at bytes) ≡ [] = drop-drop 1 b.at bytes ∙ drop_of_length-le bytes {i = b.at + 1} on.short in
@@ -181,16 +180,16 @@ module _ (bytes : List ℕ) (good : (i : ℕ) → get_or bytes i 0 < 256) (b' : 
   -- one step, with the run behind it
   back_step : (turns : ℕ) (b : Book) → Kept b → b.at ≤ length bytes
       → ((x : Book) → Kept x → x.at ≤ length bytes → run limits turns bytes x ≡ accept b' → Back x)
-      → run limits (suc turns) bytes b ≡ accept b' → (x : Step) → next_step limits bytes b ≡ x
+      → run limits (suc turns) bytes b ≡ accept b' → (x : Result Step Refusal) → next_step limits bytes b ≡ x
       → Sound (length bytes) (counts b) (record_of limits (drop b.at bytes)) x → Back b
-  back_step turns b f h on e (AddEvent c site sited next) q s =
+  back_step turns b f h on e (Ok (AddEvent c site sited next)) q s =
       back_event b c site sited next f s (on (add_event b c site sited next) (kept_event f s) s.inside (sym (run_event turns bytes b c site sited next q) ∙ e))
-  back_step turns b f h on e (AddGate kind k n next) q s =
+  back_step turns b f h on e (Ok (AddGate kind k n next)) q s =
       back_gate b kind k n next f s (on (add_gate b kind k n next) (kept_gate f (drop b.at bytes) refl s) s.inside (sym (run_gate turns bytes b kind k n next q) ∙ e))
-  back_step turns b f h on e (AddInput i next) q s =
+  back_step turns b f h on e (Ok (AddInput i next)) q s =
       back_input b i next f s (on (add_input b i next) (kept_input f s (next_fed bytes b q)) s.inside (sym (run_input turns bytes b i next q) ∙ e))
-  back_step turns b f h on e Close q s = back_end b (close_is b b' (sym (run_close turns bytes b q) ∙ e)) s
-  back_step turns b f h on e (Refused a) q s =
+  back_step turns b f h on e (Ok Close) q s = back_end b (close_is b b' (sym (run_close turns bytes b q) ∙ e)) s
+  back_step turns b f h on e (Err a) q s =
       let d : refuse a ≡ accept b' = sym (run_refused turns bytes b a q) ∙ e in let z : ◌≡◌ {A = ℕ} 0 1 = cc in absurd (omega arith)
 
   back : (turns : ℕ) (b : Book) → Kept b → b.at ≤ length bytes → run limits turns bytes b ≡ accept b' → Back b
@@ -205,16 +204,16 @@ module _ (bytes : List ℕ) (good : (i : ℕ) → get_or bytes i 0 < 256) (b' : 
       (follow_start (memory b')).rest ∙ sym done.1
 
 -- no site of a lawful tree is lost where it is written
-pub keeps_sites : (b : Book) → Lawful limits b → lost_site (memory b) ≡ Nothing
+pub keeps_sites : (b : Book) → Lawful limits b → lost_site (memory b) ≡ None
 unfolding memory
 keeps_sites b l =
-    if_elim (λ (f : Found). f ≡ Nothing) b.sited (λ _. refl)
+    if_elim (λ (f : Option ℕ). f ≡ None) b.sited (λ _. refl)
     (λ plain. none_sited (length b.events) 0 (pad limits.events no_event b.events)
     (λ e low high. ap (λ (x : EventOf). x.site) (pad_get_d limits.events no_event b.events e no_event (omega arith)) ∙ l.sites plain e (omega arith)))
 
 -- written to a room that is long enough, an accepted tree gives the bytes that were read, and the room behind them stays
 pub write_gives_back : (bytes room : List ℕ) → ((i : ℕ) → get_or bytes i 0 < 256) → (b : Book) → outcome limits bytes ≡ accept b → length bytes ≤ length room
-    → write_of limits (memory b) room ≡ wrote Done (length bytes) (bytes ++ drop (length bytes) room)
+    → write_of limits (memory b) room ≡ wrote (Ok (length bytes)) (bytes ++ drop (length bytes) room)
 write_gives_back bytes room good b e h =
     let same : bytes_of (memory b) ≡ bytes = round_trip bytes good b e in
     sym (writes_done (memory b) room (b, ap (outcome limits) same ∙ e) (keeps_sites b (lawful bytes b e)) (rw same h) (sym (ap length same)) (rw same))

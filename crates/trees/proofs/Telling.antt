@@ -18,7 +18,6 @@ use Rattle.judging.specs.Bytes.{held_event, told_least, told_event, told}
 use Rattle.records.specs.declared.Event.{Event as Held}
 use Rattle.records.specs.declared.Tree.{Tree}
 use Rattle.rules.specs.declared.format.Record.{Record}
-use Rattle.rules.specs.declared.format.Record.TheVariants.{Event, SitedEvent}
 use Rattle.rules.proofs.Cases.{if_elim}
 use Rattle.rules.proofs.Steps.{code_of}
 use Rattle.records.proofs.Pad.{length_▷, tabulate_▷}

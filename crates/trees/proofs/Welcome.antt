@@ -9,21 +9,22 @@ use borrow.Author.Tests.{ltb-true, ltb-false, leb-true, eqb-true, eqb-false, le-
 use Rattle.paper.specs.Limits.{limits, wide_from, billion}
 use Rattle.paper.specs.Flat.{gates_from}
 use Rattle.rules.specs.Rules.{wrong_k, mixed, event_step, gate_step, end_step, admit_of, Fits}
-use Rattle.std.specs.Prelude.{if◌then◌else◌}
+use Rattle.std.specs.Prelude.{if◌then◌else◌, Result, Ok, Err}
 use Rattle.rules.specs.Format.{event_in}
 use Rattle.judging.specs.Bytes.{input_record, gate_record}
+use Rattle.rules.specs.declared.Refusal.{Refusal}
 use Rattle.rules.specs.declared.format.Record.{Record}
 use Rattle.rules.specs.declared.judge.State.{State}
 use Rattle.rules.specs.declared.judge.Step.{Step}
-use Rattle.rules.specs.declared.judge.Step.TheVariants.{AddEvent, AddGate, AddInput, Close, Refused}
+use Rattle.rules.specs.declared.judge.Step.TheVariants.{AddEvent, AddGate, AddInput, Close}
 use Rattle.rules.proofs.Cases.{if_elim}
 
-abbrev pub Welcome : Step → Type 0
-Welcome (AddEvent c site sited next) = Unit {0}
-Welcome (AddGate kind k n next) = Unit {0}
-Welcome (AddInput i next) = Unit {0}
-Welcome Close = Unit {0}
-Welcome (Refused a) = ⊥
+abbrev pub Welcome : Result Step Refusal → Type 0
+Welcome (Ok (AddEvent c site sited next)) = Unit {0}
+Welcome (Ok (AddGate kind k n next)) = Unit {0}
+Welcome (Ok (AddInput i next)) = Unit {0}
+Welcome (Ok Close) = Unit {0}
+Welcome (Err a) = ⊥
 
 -- k is right, in a gate that has one
 pub not_wrong : (kind k n : ℕ) → (kind ≡ 4 → (1 ≤ k) × (k ≤ n)) → wrong_k kind k n ≡ false

@@ -6,7 +6,7 @@ use Prim.Native.Nat.{ℕ, ◌-◌, ◌≤◌, ◌<◌}
 use native.Mathlib.Omega.{arith}
 use lib.Dec.{ltb}
 use borrow.Author.Tests.{ltb-true, ltb-false, lt-ltb, le-ltb}
-use Rattle.paper.specs.Trees.{Input, event, gate, forced}
+use Rattle.paper.specs.Trees.{event, gate, forced}
 use Rattle.paper.specs.Flat.{gates_from, failed_from, sound_from, input_of}
 
 module _ (code : ℕ) where

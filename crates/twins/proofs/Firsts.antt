@@ -7,7 +7,7 @@ use mathlib.Core.List.{List, [], ◌∷◌, ◌++◌, map}
 use Prim.Native.Nat.{ℕ, zero, suc, ◌≤◌, ◌<◌, suc-le-suc}
 use native.Mathlib.Omega.{arith}
 use lib.ListN.{length, get_or}
-use Rattle.paper.specs.Lists.{In, keep}
+use Rattle.paper.specs.Lists.{In}
 use Rattle.paper.specs.Twins.{others, firsts}
 use Rattle.twins.specs.Distinct.{stands_in}
 use Rattle.twins.proofs.Kept.{in_keep, keep_in, keep_same, keep_append, keep_length, keep_places, keep_map}
@@ -61,24 +61,6 @@ module _ {A : Type 0} (same : A → A → Bool) where
           append_none (a ∷ l) = ap (a ∷◌) (append_none l)
       go false q true = rw q
       go false q false = rw (q, keep_append (λ z. not (same x z)) (firsts same xs) (y ∷ []), q)
-
-  -- it stands where one of them is the same, and only there
-  pub stands_at : (y : A) (xs : List A) (j : ℕ) (d : A) → j < length xs → same (get_or xs j d) y ≡ true → stands_in same y xs ≡ true
-  stands_at y [] j d h e = absurd (omega arith)
-  stands_at y (x ∷ xs) zero d h e = rw e
-  stands_at y (x ∷ xs) (suc j) d h e = go (same x y) (stands_at y xs j d (omega arith) e)
-    where
-      go : (b : Bool) → stands_in same y xs ≡ true → (b || stands_in same y xs) ≡ true
-      go true r = refl
-      go false r = r
-
-  pub stands_end : (y : A) (xs : List A) (x : A) → stands_in same y xs ≡ false → same x y ≡ false → stands_in same y (xs ++ (x ∷ [])) ≡ false
-  stands_end y [] x s e = rw e
-  stands_end y (z ∷ xs) x s e = go (same z y) s (λ r. stands_end y xs x r e)
-    where
-      go : (b : Bool) → (b || stands_in same y xs) ≡ false → (stands_in same y xs ≡ false → stands_in same y (xs ++ (x ∷ [])) ≡ false) → (b || stands_in same y (xs ++ (x ∷ []))) ≡ false
-      go true s r = s
-      go false s r = r s
 
 -- WHAT A TWIN CHANGES NOTHING OF has one value over each once, and over all
 module _ {A B : Type 0} (same : A → A → Bool) (is : (a b : A) → same a b ≡ true → a ≡ b) (op : A → B → B)

@@ -8,7 +8,7 @@ use native.Mathlib.Omega.{arith}
 use lib.Dec.{eqb}
 use borrow.Author.Tests.{eqb-true, eqb-false, eq-eqb, ne_eqb}
 use Rattle.paper.specs.Lists.{keep}
-use Rattle.paper.specs.Trees.{Input, event, gate, forced, same_input, distinct_inputs, InputBelow, InputsBelow}
+use Rattle.paper.specs.Trees.{Input, event, gate, forced, same_input, distinct_inputs, InputsBelow}
 use Rattle.paper.specs.Flat.{gates_from, failed_from, sound_from, input_of}
 use Rattle.twins.specs.Distinct.{distinct_codes}
 use Rattle.twins.proofs.Firsts.{firsts_map}

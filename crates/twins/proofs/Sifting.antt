@@ -1,35 +1,23 @@
--- The search for a number among others, and for the distinct ones.
+-- The search for the distinct ones.
 -- Assumes nothing.
 use mathlib.Core.Path.{◌≡◌, refl, sym, ap, ap₂, ◌∙◌, subst}
-use mathlib.Core.Bool.{Bool, true, false, cond}
+use mathlib.Core.Bool.{Bool, true, false, cond, ◌||◌}
 use mathlib.Core.List.{List, [], ◌∷◌, ◌++◌}
 use Prim.Native.Nat.{ℕ, ◌+◌, ◌≤◌, ◌<◌}
 use native.Mathlib.Omega.{arith}
 use native.Mathlib.Numerals.{add-one}
 use lib.ListN.{length, take, get_or, set, length-set}
-use lib.Seq.{take-suc, take_all, length-take-le, get_or-take, take-set-le, get_or-set_same}
+use lib.Seq.{take-suc, take_all, length-take-le, take-set-le, get_or-set_same}
 use lib.Dec.{eqb}
-use borrow.Author.Tests.{eq-eqb, ne_eqb}
+use Rattle.std.specs.List.{list_any}
 use Rattle.paper.specs.Limits.{limits}
-use Rattle.paper.specs.Twins.{firsts}
 use Rattle.twins.specs.Distinct.{stands_in, distinct_codes, Distinct}
-use Rattle.twins.proofs.Firsts.{firsts_length, firsts_end, stands_at, stands_end}
+use Rattle.twins.proofs.Firsts.{firsts_length, firsts_end}
 
--- ---- among the first n
-
--- none of the first j
-pub record Absent (xs : List ℕ) (x j : ℕ) : Type 0 where
-  pub none : stands_in eqb x (take j xs) ≡ false
-
-pub absent_next : {xs : List ℕ} {x j : ℕ} → Absent xs x j → j < length xs → (get_or xs j 0 ≡ x → ⊥) → Absent xs x (j + 1)
-absent_next {xs} {x} {j} a h n = record { none = rw (add-one j, take-suc xs j 0 h) (stands_end eqb x (take j xs) (get_or xs j 0) a.none (ne_eqb (get_or xs j 0) x n)) }
-
-pub absent_end : {xs : List ℕ} {x j : ℕ} → Absent xs x j → (n : ℕ) → j ≡ n → false ≡ stands_in eqb x (take n xs)
-absent_end {xs} {x} a n e = sym (subst (λ k. stands_in eqb x (take k xs) ≡ false) e a.none)
-
-pub present : (xs : List ℕ) (x n j : ℕ) → n ≤ length xs → j < n → get_or xs j 0 ≡ x → true ≡ stands_in eqb x (take n xs)
-present xs x n j room h e =
-    sym (stands_at eqb x (take n xs) j 0 (let q = length-take-le n xs room in omega arith) (eq-eqb (get_or (take n xs) j 0) x (get_or-take n xs j 0 h ∙ e)))
+-- the library's search
+stands_is : {A : Type 0} (same : A → A → Bool) (y : A) (xs : List A) → stands_in same y xs ≡ list_any (λ x. same x y) xs
+stands_is same y [] = refl
+stands_is same y (x ∷ xs) = ap (λ r. same x y || r) (stands_is same y xs)
 
 -- ---- the distinct ones of the first i
 
@@ -56,9 +44,9 @@ module _ {codes out : List ℕ} {i n : ℕ} (s : Sifting codes out i n) where
     next : distinct_codes (take (i + 1) codes) ≡ cond (stands_in eqb (get_or codes i 0) (take i codes)) (distinct_codes (take i codes)) (distinct_codes (take i codes) ++ (get_or codes i 0 ∷ []))
     next = rw (add-one i, take-suc codes i 0 h) (firsts_end eqb (take i codes) (get_or codes i 0))
 
-    module _ (e : stands_in eqb (get_or codes i 0) (take i codes) ≡ true) where
+    module _ (e : list_any (λ x. eqb x (get_or codes i 0)) (take i codes) ≡ true) where
       same : distinct_codes (take (i + 1) codes) ≡ distinct_codes (take i codes)
-      same = rw next (rw e)
+      same = rw next (rw (stands_is eqb (get_or codes i 0) (take i codes), e))
 
       pub sifting_twin : {out' : List ℕ} {n' : ℕ} → out' ≡ out → n' ≡ n → Sifting codes out' (i + 1) n'
       sifting_twin {out'} {n'} eo en = record {
@@ -70,9 +58,9 @@ module _ {codes out : List ℕ} {i n : ℕ} (s : Sifting codes out i n) where
         };
       }
 
-    module _ (e : stands_in eqb (get_or codes i 0) (take i codes) ≡ false) where
+    module _ (e : list_any (λ x. eqb x (get_or codes i 0)) (take i codes) ≡ false) where
       more : distinct_codes (take (i + 1) codes) ≡ distinct_codes (take i codes) ++ (get_or codes i 0 ∷ [])
-      more = rw next (rw e)
+      more = rw next (rw (stands_is eqb (get_or codes i 0) (take i codes), e))
 
       longer : (l : List ℕ) (y : ℕ) → length (l ++ (y ∷ [])) ≡ length l + 1
       longer [] y = refl

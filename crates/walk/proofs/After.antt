@@ -16,7 +16,12 @@ use Rattle.algebra.proofs.Lists.{in_append, map_in, keep_same, keep_all, keep_no
 use Rattle.algebra.proofs.Without.{sets_above}
 use Rattle.sets.specs.Words.{set_of, Lowest}
 use Rattle.tables.specs.Table.{event_of, failed_of, sound_of, den}
-use Rattle.walk.specs.Paths.{around, Open, Spotted, Reached}
+use Rattle.std.proofs.Common.{Option, Some, None}
+use Rattle.std.specs.Prelude.{MatchOption}
+use Rattle.walk.specs.declared.Spot.{Spot}
+use Rattle.walk.specs.Paths.{around, Open, Carries, Spotted, Reached, Ended}
+use Rattle.walk.specs.Follows.{Parts, Shorter}
+use Rattle.walk.proofs.Steps.{ended_as}
 use Rattle.walk.specs.After.{to_list}
 use Rattle.walk.proofs.Paths.{around_none, sets_0, sets_1, sets_node, branches, open_push, open_pass, around_push, here}
 use Rattle.walk.proofs.Behind.{both_hold, both_lack, first_holds, second_holds, behind_same, behind_none}
@@ -78,7 +83,7 @@ module _ {n : ℕ} {T : List ℕ} {c : ℕ} {S : Set} {P : List ℕ} {d at i : �
         let a = ev_low in
         let up = lo.above (omega arith) in
         let all : keep (behind (n - i) i S) (sets_of (den T at)) ≡ sets_of (den T at) = keep_all (behind (n - i) i S) (sets_of (den T at)) each in
-        record { path = w.path; bare = λ z. absurd (omega arith); is = w.is ∙ ap (around T (take d P)) all }
+        record { path = w.path; some = omega arith; is = w.is ∙ ap (around T (take d P)) all }
       where
         none_below : (U : Set) → In U (sets_of (den T at)) → (j : ℕ) → j < ev → U j ≡ false
         none_below U k j q = go (in_append U (map (put ev true) fs) bs (subst (In U) (sets_node w.path.lent two) k))
@@ -160,7 +165,7 @@ module _ {n : ℕ} {T : List ℕ} {c : ℕ} {S : Set} {P : List ℕ} {d at i : �
       let comes : behind (n - i) i S none ≡ true = first_holds n i x S none up h (λ j p r. lo.clear j p r) (lo.is (omega arith)) refl in
       let one : sets_of (den T at) ≡ none ∷ [] = ap (λ (k : ℕ). sets_of (den T k)) q ∙ sets_1 T in
       let all : keep (behind (n - i) i S) (sets_of (den T at)) ≡ sets_of (den T at) = ap (keep (behind (n - i) i S)) one ∙ rw comes (sym one) in
-      record { path = w.path; bare = λ z. absurd (omega arith); is = w.is ∙ ap (around T (take d P)) all }
+      record { path = w.path; some = omega arith; is = w.is ∙ ap (around T (take d P)) all }
 
   -- with none left: what the path leaves
   pub stop_end : n ≤ x → l ≡ around T (take d P) []
@@ -174,13 +179,19 @@ stop_zero {n} {T} {S = S} {P} {d} {i = i} w q = w.is ∙ ap (λ (k : ℕ). aroun
 
 -- a spot of the same sets
 pub spotted_as : {n : ℕ} {T : List ℕ} {c : ℕ} {P : List ℕ} {d at : ℕ} {l m : List Set} → l ≡ m → Spotted n T c P d at m → Spotted n T c P d at l
-spotted_as e s = record { path = s.path; bare = s.bare; is = e ∙ s.is }
+spotted_as e s = record { path = s.path; some = s.some; is = e ∙ s.is }
 
--- the first cut of a call: of all the sets of the root, or of those after the set
-pub start_all : {n : ℕ} {T : List ℕ} {c : ℕ} {P : List ℕ} {found : Bool} {d : ℕ} (root : ℕ) (begin : Bool) (ws : List ℕ) → begin ≡ true
-    → Reached n T c P found d (around T [] (sets_of (den T root))) → Reached n T c P found d (to_list n (den T root) begin ws)
-start_all {n} {T} root begin ws e r = record { path = r.path; is = ap (λ (b : Bool). to_list n (den T root) b ws) e ∙ sym (around_none T (sets_of (den T root))) ∙ r.is }
+-- what a climb answers, of the same sets
+pub climbed_as : (n : ℕ) (T : List ℕ) (c : ℕ) (P ws : List ℕ) {l m : List Set} (S : Set) (o : Option Spot) → l ≡ m
+    → MatchOption o (Ended n T c P ws m) (λ p. Spotted n T c P p.depth p.node m × Carries T P p.depth ws × Parts n T (set_of ws) p.node p.low × Shorter S (set_of ws) p.low)
+    → MatchOption o (Ended n T c P ws l) (λ p. Spotted n T c P p.depth p.node l × Carries T P p.depth ws × Parts n T (set_of ws) p.node p.low)
+climbed_as n T c P ws S None e h = ended_as e h
+climbed_as n T c P ws S (Some p) e h = (spotted_as e h.0, h.1, h.2)
 
-pub start_after : {n : ℕ} {T : List ℕ} {c : ℕ} {P : List ℕ} {found : Bool} {d : ℕ} (root : ℕ) (begin : Bool) (ws : List ℕ) → begin ≡ false
-    → Reached n T c P found d (rest n (set_of ws) (sets_of (den T root))) → Reached n T c P found d (to_list n (den T root) begin ws)
-start_after {n} {T} root begin ws e r = record { path = r.path; is = ap (λ (b : Bool). to_list n (den T root) b ws) e ∙ r.is }
+-- from the beginning a call has to list all the sets of the root
+pub listed_all : (n : ℕ) (T : List ℕ) (root : ℕ) (begin : Bool) (ws : List ℕ) → begin ≡ true → to_list n (den T root) begin ws ≡ sets_of (den T root)
+listed_all n T root begin ws e = ap (λ (b : Bool). to_list n (den T root) b ws) e
+
+-- a cut of the same sets
+pub reached_as : {n : ℕ} {T : List ℕ} {c : ℕ} {P : List ℕ} {d : ℕ} {l m : List Set} → l ≡ m → Reached n T c P d m → Reached n T c P d l
+reached_as e r = record { path = r.path; is = e ∙ r.is }

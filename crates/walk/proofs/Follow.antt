@@ -1,7 +1,7 @@
 -- What stays of a set on the way up and down: the events below the lowest that changed.
 -- Assumes nothing.
-use mathlib.Core.Path.{◌≡◌, refl, sym, ap, ◌∙◌, subst}
-use mathlib.Core.Bool.{Bool, true, false, false≢true}
+use mathlib.Core.Path.{◌≡◌, refl, sym, ap, ◌∙◌, subst, subst₂}
+use mathlib.Core.Bool.{true, false, false≢true}
 use mathlib.Core.List.{List}
 use Prim.Native.Nat.{ℕ, ◌+◌, ◌-◌, ◌≤◌, ◌<◌}
 use native.Mathlib.Decide.{dec_lt}
@@ -14,7 +14,7 @@ use Rattle.sets.proofs.Count.{keep_agree}
 use Rattle.tables.specs.Table.{event_of, failed_of, sound_of}
 use Rattle.tables.proofs.Lent.{lent_node}
 use Rattle.walk.specs.Paths.{Open, Carries}
-use Rattle.walk.specs.Follows.{Parts, Shorter, Longer, Follows}
+use Rattle.walk.specs.Follows.{Parts, Shorter, Longer, Follows, Starts}
 use Rattle.walk.proofs.Paths.{here, top}
 use Rattle.walk.proofs.Carry.{carries_within, carries_empty, carries_holds, carries_lower}
 
@@ -58,11 +58,8 @@ module _ {n : ℕ} {T : List ℕ} {c : ℕ} {P : List ℕ} {d at : ℕ} (o : Ope
           let rise : 2 ≤ sound_of T i → event_of T i < event_of T (sound_of T i) = nd.sound_above in
           record { inside = omega arith; below = carries_lower o k some qi qe q; above = subst (λ (y : ℕ). 2 ≤ y → e ≤ event_of T y) (sym qb) (λ h. let r = rise h in omega arith) }
 
-      pub shorter_pop : Shorter S (S') b e
-      shorter_pop = record { held = λ _. sym (t.same e low) ∙ (carries_holds o k some qi qe).1; same = same }
-
-pub shorter_none : (S S' : Set) → Shorter S S' 0 0
-shorter_none S S' = record { held = λ h. absurd (omega arith); same = λ j h. absurd (omega arith) }
+      pub shorter_pop : Shorter S (S') e
+      shorter_pop = record { held = sym (t.same e low) ∙ (carries_holds o k some qi qe).1; same = same }
 
 -- ---- down
 
@@ -92,15 +89,19 @@ module _ {n : ℕ} {T : List ℕ} {c : ℕ} {P : List ℕ} {d at : ℕ} (o : Ope
 
 -- ---- both
 
-pub follows : {n : ℕ} {S S' S'' : Set} {at kept low high : ℕ} {found : Bool} → Shorter S S' at low → length (members low S') ≡ kept → Longer n S' S'' low high → (found ≡ true → 0 < at) → Follows n S S'' found kept low high
-follows {S' = S'} {S''} {low = low} a m b h = record {
-  held = λ q. a.held (h q);
+pub follows : {n : ℕ} {S S' S'' : Set} {kept low high kept' low' : ℕ} → Shorter S S' low → length (members low S') ≡ kept → Longer n S' S'' low high → kept' ≡ kept → low' ≡ low → Follows n S S'' kept' low' high
+follows {n} {S} {S'} {S''} {low = low} {high} a m b qk ql = subst₂ (λ (k l : ℕ). Follows n S S'' k l high) (sym qk) (sym ql) (record {
+  held = a.held;
   same = λ j l. b.same j l ∙ a.same j l;
   many = sym (ap length (keep_agree S'' S' low 0 (λ j p q. b.same j (omega arith))) ∙ m);
   rise = b.rise;
   inside = b.inside;
   within = b.within;
-}
+})
+
+-- from the empty path all is new
+pub starts : {n : ℕ} {S S' : Set} {low high kept' low' : ℕ} → Longer n S S' low high → kept' ≡ 0 → low' ≡ 0 → Starts n S' kept' low' high
+starts b qk ql = record { no_member = qk; no_event = ql; inside = b.inside; within = b.within }
 
 -- ---- along a set: events below i are dealt with
 

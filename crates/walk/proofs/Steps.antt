@@ -1,7 +1,6 @@
 -- One step down a failed branch, and one step back up: what is left stays the same.
 -- Assumes nothing.
-use mathlib.Core.Path.{◌≡◌, refl, sym, ap, ap₂, ◌∙◌, subst}
-use mathlib.Core.Bool.{Bool, true, false}
+use mathlib.Core.Path.{◌≡◌, refl, sym, ap, ◌∙◌, subst}
 use mathlib.Core.List.{List, []}
 use Prim.Native.Nat.{ℕ, ◌+◌, ◌-◌, ◌≤◌, ◌<◌}
 use native.Mathlib.Omega.{arith}
@@ -11,7 +10,8 @@ use Rattle.paper.specs.Cuts.{sets_of}
 use Rattle.tables.specs.Table.{event_of, failed_of, sound_of, den}
 use Rattle.tables.specs.Lent.{Node}
 use Rattle.tables.proofs.Lent.{lent_node}
-use Rattle.walk.specs.Paths.{around, Climbs, Open, Spotted, Reached}
+use Rattle.walk.specs.Paths.{around, Climbs, Open, Carries, Spotted, Reached, Ended}
+use Rattle.walk.proofs.Carry.{carries_zero}
 use Rattle.walk.proofs.Paths.{around_snoc, around_none, rooted, sets_0, sets_1, sets_node, open_leaf, open_none, open_push, around_push, here, shorter, top}
 
 -- ---- down
@@ -27,7 +27,7 @@ down_start o h = record { path = o; some = h; is = refl }
 
 module _ {n : ℕ} {T : List ℕ} {c : ℕ} {P : List ℕ} {d at : ℕ} {l : List Set} (w : Down n T c P d at l) where
   -- the leaf 1 is reached
-  pub down_end : at < 2 → Reached n T c P true d l
+  pub down_end : at < 2 → Reached n T c P d l
   down_end h =
       let z = w.some in
       let one : at ≡ 1 = omega arith in
@@ -59,11 +59,11 @@ pub up_start : {n : ℕ} {T : List ℕ} {c : ℕ} {P : List ℕ} {d : ℕ} → O
 up_start o = record { path = o; is = refl }
 
 module _ {n : ℕ} {T : List ℕ} {c : ℕ} {P : List ℕ} {d : ℕ} {l : List Set} (w : Behind n T c P d l) where
-  pub up_end : d ≡ 0 → Spotted n T c P 0 0 l
-  up_end z = record {
-    path = open_none w.path 0 (omega arith);
-    bare = λ _. refl;
-    is = w.is ∙ ap (λ (k : ℕ). around T (take k P) []) z ∙ ap (around T []) (sym (sets_0 T));
+  pub up_end : d ≡ 0 → {ws : List ℕ} → Carries T P d ws → Ended n T c P ws l
+  up_end z k = record {
+    path = open_none w.path 1 (omega arith);
+    carries = carries_zero w.path k z refl;
+    none_left = w.is ∙ ap (λ (k : ℕ). around T (take k P) []) z ∙ around_none T [];
   }
 
   -- with the entry on top taken away, what its sound branch leads to is left besides
@@ -96,7 +96,7 @@ module _ {n : ℕ} {T : List ℕ} {c : ℕ} {P : List ℕ} {d : ℕ} {l : List S
         ∙ ap (λ (k : ℕ). around T (take (d - 1) P) (sets_of (den T k))) (sym qb)
 
     pub up_found : 0 < b → Spotted n T c P (d - 1) b l
-    up_found h = record { path = up_open; bare = λ z. absurd (omega arith); is = step }
+    up_found h = record { path = up_open; some = h; is = step }
 
     pub up_more : b ≡ 0 → Behind n T c P (d - 1) l
     up_more z = record {
@@ -106,14 +106,15 @@ module _ {n : ℕ} {T : List ℕ} {c : ℕ} {P : List ℕ} {d : ℕ} {l : List S
 
 -- ---- the first cut from a node down
 
--- node 0, where there is no path: no set is left
-pub land_none : {n : ℕ} {T : List ℕ} {c : ℕ} {P : List ℕ} {d at : ℕ} → Open n T c P d at → (at ≡ 0 → d ≡ 0) → at ≡ 0 → Reached n T c P false 0 (around T (take d P) (sets_of (den T at)))
-land_none {T = T} {P = P} o b z = record {
-  path = open_none o 1 (omega arith);
-  is = ap₂ (λ (k a : ℕ). around T (take k P) (sets_of (den T a))) (b z) z ∙ around_none T (sets_of (den T 0)) ∙ sets_0 T;
-}
+-- at node 0 no set is left
+pub ended_zero : {n : ℕ} {T : List ℕ} {c : ℕ} {P ws : List ℕ} {at : ℕ} → Open n T c P 0 at → Carries T P 0 ws → at ≡ 0 → Ended n T c P ws (sets_of (den T at))
+ended_zero {T = T} o k z = record { path = open_none o 1 (omega arith); carries = k; none_left = ap (λ (a : ℕ). sets_of (den T a)) z ∙ sets_0 T }
+
+-- of the same sets
+pub ended_as : {n : ℕ} {T : List ℕ} {c : ℕ} {P ws : List ℕ} {l m : List Set} → l ≡ m → Ended n T c P ws m → Ended n T c P ws l
+ended_as e w = record { path = w.path; carries = w.carries; none_left = e ∙ w.none_left }
 
 -- from a spot to the first cut from there
-pub reached_from : {n : ℕ} {T : List ℕ} {c : ℕ} {P P' : List ℕ} {d at : ℕ} {found : Bool} {d' : ℕ} {l : List Set} → Spotted n T c P d at l
-    → Reached n T c P' found d' (around T (take d P) (sets_of (den T at))) → Reached n T c P' found d' l
+pub reached_from : {n : ℕ} {T : List ℕ} {c : ℕ} {P P' : List ℕ} {d at d' : ℕ} {l : List Set} → Spotted n T c P d at l
+    → Reached n T c P' d' (around T (take d P) (sets_of (den T at))) → Reached n T c P' d' l
 reached_from s r = record { path = r.path; is = s.is ∙ r.is }

@@ -1,6 +1,6 @@
 -- From a set to the set of the next cut: what stays, and how far the new events reach.
 -- Assumes nothing.
-use Rattle.std.specs.Prelude.{◌≡◌, Bool, true, List, ℕ, suc, ◌≤◌, ◌<◌, length}
+use Rattle.std.specs.Prelude.{◌≡◌, true, List, ℕ, suc, ◌≤◌, ◌<◌, length}
 use Rattle.paper.specs.Sets.{Set, Within, members}
 use Rattle.tables.specs.Table.{event_of}
 
@@ -10,9 +10,9 @@ pub record Parts (n : ℕ) (T : List ℕ) (S : Set) (at low : ℕ) : Type 0 wher
   pub below : Within low S
   pub above : 2 ≤ at → low ≤ event_of T at
 
--- the way up: S' has the events of S below low; S holds low, unless there is nowhere to go down
-pub record Shorter (S S' : Set) (at low : ℕ) : Type 0 where
-  pub held : 0 < at → S low ≡ true
+-- the way up: S' has the events of S below low; S holds low
+pub record Shorter (S S' : Set) (low : ℕ) : Type 0 where
+  pub held : S low ≡ true
   pub same : (j : ℕ) → j < low → S' j ≡ S j
 
 -- the way down: S' has the events of S below low, and none above high
@@ -22,9 +22,9 @@ pub record Longer (n : ℕ) (S S' : Set) (low high : ℕ) : Type 0 where
   pub inside : high < n
   pub within : Within (suc high) S'
 
--- both: S' is the set of the cut after that of S, if one was found; `kept` of its members are below low
-pub record Follows (n : ℕ) (S S' : Set) (found : Bool) (kept low high : ℕ) : Type 0 where
-  pub held : found ≡ true → S low ≡ true
+-- both: S' is the set of the cut after that of S; `kept` of its members are below low
+pub record Follows (n : ℕ) (S S' : Set) (kept low high : ℕ) : Type 0 where
+  pub held : S low ≡ true
   pub same : (j : ℕ) → j < low → S' j ≡ S j
   pub many : kept ≡ length (members low S')
   pub rise : low ≤ high

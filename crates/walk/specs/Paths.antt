@@ -1,6 +1,6 @@
 -- A path: the nodes at which the failed branch was taken, from the root down; and what a listing at its end has still to list.
 -- Assumes nothing.
-use Rattle.std.specs.Prelude.{◌≡◌, Bool, true, false, List, [], ◌∷◌, ◌++◌, map, ℕ, suc, ◌+◌, ◌≤◌, ◌<◌, length, take}
+use Rattle.std.specs.Prelude.{◌≡◌, true, List, [], ◌∷◌, ◌++◌, map, ℕ, suc, ◌+◌, ◌≤◌, ◌<◌, length, take}
 use Rattle.paper.specs.Sets.{Set, none, put, of_events}
 use Rattle.paper.specs.Cuts.{sets_of}
 use Rattle.sets.specs.Words.{words, set_of}
@@ -39,18 +39,23 @@ pub record Carries (T P : List ℕ) (d : ℕ) (ws : List ℕ) : Type 0 where
   pub long : length ws ≡ words
   pub is : set_of ws ≡ along T (take d P)
 
--- a node to go down from: the sets l are those of the node and those left by the path; node 0 only where there is no path
+-- a node to go down from: the sets l are those of the node and those left by the path
 pub record Spotted (n : ℕ) (T : List ℕ) (c : ℕ) (P : List ℕ) (d at : ℕ) (l : List Set) : Type 0 where
   pub path : Open n T c P d at
-  pub bare : at ≡ 0 → d ≡ 0
+  pub some : 0 < at
   pub is : l ≡ around T (take d P) (sets_of (den T at))
 
--- the sets left at the path of a cut: its own and those behind it; none where no cut was found
-abbrev pub left_of : Bool → List ℕ → List ℕ → ℕ → List Set
-left_of true T P d = around T (take d P) (none ∷ [])
-left_of false T P d = []
+-- the sets left at the path of a cut: its own and those behind it
+abbrev pub left_of : List ℕ → List ℕ → ℕ → List Set
+left_of T P d = around T (take d P) (none ∷ [])
 
--- the path of the first of the sets l, or none
-pub record Reached (n : ℕ) (T : List ℕ) (c : ℕ) (P : List ℕ) (found : Bool) (d : ℕ) (l : List Set) : Type 0 where
+-- the path of the first of the sets l
+pub record Reached (n : ℕ) (T : List ℕ) (c : ℕ) (P : List ℕ) (d : ℕ) (l : List Set) : Type 0 where
   pub path : Open n T c P d 1
-  pub is : l ≡ left_of found T P d
+  pub is : l ≡ left_of T P d
+
+-- no set is left of the sets l: the path is empty, and so is its set
+pub record Ended (n : ℕ) (T : List ℕ) (c : ℕ) (P ws : List ℕ) (l : List Set) : Type 0 where
+  pub path : Open n T c P 0 1
+  pub carries : Carries T P 0 ws
+  pub none_left : l ≡ []

@@ -2,17 +2,17 @@
 // The set of the path's events goes with it.
 #![tactic(auto)]
 
-ghost use Rattle.std.specs.Prelude.{◌≡◌, [], true, suc, ◌<◌, length, take};
+ghost use Rattle.std.specs.Prelude.{◌≡◌, [], suc, ◌<◌, length, take, MatchOption};
 ghost use Rattle.paper.specs.Sets.{Within};
 ghost use Rattle.paper.specs.Cuts.{sets_of};
 ghost use Rattle.paper.specs.Order.{rest};
 ghost use Rattle.sets.specs.Words.{words, set_of};
 ghost use Rattle.tables.specs.Table.{den};
-ghost use Rattle.walk.specs.Paths.{around, Open, Carries, Spotted, Reached};
+ghost use Rattle.walk.specs.Paths.{around, Open, Carries, Spotted, Reached, Ended};
 ghost use Rattle.walk.specs.Follows.{Parts, Shorter, Longer, Follows, Starts};
 ghost use Rattle.walk.specs.After.{to_list};
 
-// A node, how many entries of the path lead to it, and the lowest event in which the cuts from there differ from the set before them.
+// A node to go down from, how many entries of the path lead to it, and the lowest event in which the cuts from there differ from the set before them.
 #[derive(Clone, Copy)]
 pub struct Spot {
     pub node: usize,
@@ -20,41 +20,31 @@ pub struct Spot {
     pub low: usize,
 }
 
-// Whether a cut was reached, the depth of its path, and an event above which its set has no member.
-#[derive(Clone, Copy)]
-pub struct Move {
-    pub found: bool,
-    pub depth: usize,
-    pub high: usize,
-}
-
-// The same of a cut behind another, the lowest event in which the two differ, and how many members are below it: none of the first cut, all of which is new.
+// A cut: the depth of its path, the lowest event in which it differs from the cut before, how many members are below it, and an event above which there is no member.
+// Of the first cut all is new.
 #[derive(Clone, Copy)]
 pub struct Step {
-    pub found: bool,
     pub depth: usize,
     pub kept: usize,
     pub low: usize,
     pub high: usize,
 }
 
-// Goes down failed branches from node `at` to the leaf 1 and puts each node on the path. The path's events are below `low`.
+// Goes down failed branches from the spot `p` to the leaf 1 and puts each node on the path. The path's events are below `p.low`.
 fn descend(
     nodes: &[u32],
     n: usize,
     count: usize,
     path: &mut [u32],
     set: &mut [u64; sets::WORDS],
-    depth: usize,
-    at: usize,
-    low: usize,
-) -> Move
-    requires { (Open n nodes.now count path.old depth at) × (0 < at) × Carries nodes.now path.old depth set.old × Parts n nodes.now (set_of set.old) at low }
-    ensures { Reached n nodes.now count path.new result.found result.depth (around nodes.now (take depth path.old) (sets_of (den nodes.now at))) × Carries nodes.now path.new result.depth set.new × Longer n (set_of set.old) (set_of set.new) low result.high }
+    p: Spot,
+) -> Step
+    requires { (Open n nodes.now count path.old p.depth p.node) × (0 < p.node) × Carries nodes.now path.old p.depth set.old × Parts n nodes.now (set_of set.old) p.node p.low }
+    ensures { Reached n nodes.now count path.new result.depth (around nodes.now (take p.depth path.old) (sets_of (den nodes.now p.node))) × Carries nodes.now path.new result.depth set.new × Longer n (set_of set.old) (set_of set.new) p.low result.high × (result.kept ≡ p.depth) × (result.low ≡ p.low) }
 {
-    let mut d = depth;
-    let mut i = at;
-    let mut high = low;
+    let mut d = p.depth;
+    let mut i = p.node;
+    let mut high = p.low;
     while 2 <= i {
         path[d] = i as u32;
         d += 1;
@@ -62,14 +52,15 @@ fn descend(
         sets::add(set, high);
         i = tables::failed_of(nodes, i);
     }
-    Move {
-        found: true,
+    Step {
         depth: d,
+        kept: p.depth,
+        low: p.low,
         high,
     }
 }
 
-// The deepest sound branch other than 0 of a node on the path, or node 0 where there is none.
+// The deepest sound branch other than 0 of a node on the path.
 fn climb(
     nodes: &[u32],
     n: usize,
@@ -77,54 +68,24 @@ fn climb(
     path: &[u32],
     set: &mut [u64; sets::WORDS],
     depth: usize,
-) -> Spot
+) -> Option<Spot>
     requires { (Open n nodes.now count path.now depth 1) × Carries nodes.now path.now depth set.old }
-    ensures { Spotted n nodes.now count path.now result.depth result.node (around nodes.now (take depth path.now) []) × Carries nodes.now path.now result.depth set.new × Parts n nodes.now (set_of set.new) result.node result.low × Shorter (set_of set.old) (set_of set.new) result.node result.low }
+    ensures { MatchOption result (Ended n nodes.now count path.now set.new (around nodes.now (take depth path.now) [])) (λ p. Spotted n nodes.now count path.now p.depth p.node (around nodes.now (take depth path.now) []) × Carries nodes.now path.now p.depth set.new × Parts n nodes.now (set_of set.new) p.node p.low × Shorter (set_of set.old) (set_of set.new) p.low) }
 {
-    let mut d = depth;
-    while 0 < d {
-        d -= 1;
+    for d in (0..depth).rev() {
         let i = tables::wide(path[d]);
-        let e = tables::event_of(nodes, i);
-        sets::remove(set, e);
-        let b = tables::sound_of(nodes, i);
-        if b != 0 {
-            return Spot {
-                node: b,
+        let low = tables::event_of(nodes, i);
+        sets::remove(set, low);
+        let node = tables::sound_of(nodes, i);
+        if node != 0 {
+            return Some(Spot {
+                node,
                 depth: d,
-                low: e,
-            };
+                low,
+            });
         }
     }
-    Spot {
-        node: 0,
-        depth: 0,
-        low: 0,
-    }
-}
-
-// The first cut from node `at` down, if any. The path's events are below `low`.
-fn land(
-    nodes: &[u32],
-    n: usize,
-    count: usize,
-    path: &mut [u32],
-    set: &mut [u64; sets::WORDS],
-    depth: usize,
-    at: usize,
-    low: usize,
-) -> Move
-    requires { (Open n nodes.now count path.old depth at) × (at ≡ 0 → depth ≡ 0) × Carries nodes.now path.old depth set.old × Parts n nodes.now (set_of set.old) at low }
-    ensures { Reached n nodes.now count path.new result.found result.depth (around nodes.now (take depth path.old) (sets_of (den nodes.now at))) × Carries nodes.now path.new result.depth set.new × Longer n (set_of set.old) (set_of set.new) low result.high × (result.found ≡ true → 0 < at) }
-{
-    if at == 0 {
-        return Move {
-            found: false,
-            depth: 0,
-            high: low,
-        };
-    }
-    descend(nodes, n, count, path, set, depth, at, low)
+    None
 }
 
 // From the path of a cut to the path of the next.
@@ -135,25 +96,15 @@ pub fn advance(
     path: &mut [u32],
     set: &mut [u64; sets::WORDS],
     depth: usize,
-) -> Step
+) -> Option<Step>
     requires { (Open n nodes.now count path.old depth 1) × Carries nodes.now path.old depth set.old }
-    ensures { Reached n nodes.now count path.new result.found result.depth (around nodes.now (take depth path.old) []) × Carries nodes.now path.new result.depth set.new × Follows n (set_of set.old) (set_of set.new) result.found result.kept result.low result.high }
+    ensures { MatchOption result (Ended n nodes.now count path.new set.new (around nodes.now (take depth path.old) [])) (λ s. Reached n nodes.now count path.new s.depth (around nodes.now (take depth path.old) []) × Carries nodes.now path.new s.depth set.new × Follows n (set_of set.old) (set_of set.new) s.kept s.low s.high) }
 {
-    let s = climb(nodes, n, count, path, set, depth);
-    let d = s.depth;
-    let at = s.node;
-    let low = s.low;
-    let m = land(nodes, n, count, path, set, d, at, low);
-    Step {
-        found: m.found,
-        depth: m.depth,
-        kept: d,
-        low,
-        high: m.high,
-    }
+    let p = climb(nodes, n, count, path, set, depth)?;
+    Some(descend(nodes, n, count, path, set, p))
 }
 
-// Follows the set `s` from the root: the cuts after it are those from the answer's node down, and those left by the path.
+// Follows the set `s` from the root: the cuts after it, if any, are those from the answer's node down, and those left by the path.
 pub fn seek(
     nodes: &[u32],
     n: usize,
@@ -162,9 +113,9 @@ pub fn seek(
     s: &[u64],
     path: &mut [u32],
     set: &mut [u64; sets::WORDS],
-) -> Spot
+) -> Option<Spot>
     requires { (Open n nodes.now count path.old 0 root) × (length s.now ≡ words) × Carries nodes.now path.old 0 set.old }
-    ensures { Spotted n nodes.now count path.new result.depth result.node (rest n (set_of s.now) (sets_of (den nodes.now root))) × Carries nodes.now path.new result.depth set.new × Parts n nodes.now (set_of set.new) result.node result.low }
+    ensures { MatchOption result (Ended n nodes.now count path.new set.new (rest n (set_of s.now) (sets_of (den nodes.now root)))) (λ p. Spotted n nodes.now count path.new p.depth p.node (rest n (set_of s.now) (sets_of (den nodes.now root))) × Carries nodes.now path.new p.depth set.new × Parts n nodes.now (set_of set.new) p.node p.low) }
 {
     let mut node = root;
     let mut i = 0;
@@ -173,7 +124,7 @@ pub fn seek(
         let e = tables::event_of(nodes, node);
         let low = sets::lowest(s, i);
         if low < e {
-            return Spot { node, depth, low };
+            return Some(Spot { node, depth, low });
         }
         i = e + 1;
         if e < low {
@@ -188,7 +139,7 @@ pub fn seek(
     if node == 1 {
         let low = sets::lowest(s, i);
         if low < n {
-            return Spot { node, depth, low };
+            return Some(Spot { node, depth, low });
         }
     }
     climb(nodes, n, count, path, set, depth)
@@ -203,15 +154,12 @@ pub fn next_after(
     s: &[u64],
     path: &mut [u32],
     set: &mut [u64; sets::WORDS],
-) -> Move
+) -> Option<Step>
     requires { (Open n nodes.now count path.old 0 root) × (length s.now ≡ words) × Carries nodes.now path.old 0 set.old }
-    ensures { Reached n nodes.now count path.new result.found result.depth (rest n (set_of s.now) (sets_of (den nodes.now root))) × Carries nodes.now path.new result.depth set.new × (result.high < n) × Within (suc result.high) (set_of set.new) }
+    ensures { MatchOption result (Ended n nodes.now count path.new set.new (rest n (set_of s.now) (sets_of (den nodes.now root)))) (λ m. Reached n nodes.now count path.new m.depth (rest n (set_of s.now) (sets_of (den nodes.now root))) × Carries nodes.now path.new m.depth set.new × (m.high < n) × Within (suc m.high) (set_of set.new)) }
 {
-    let p = seek(nodes, n, count, root, s, path, set);
-    let d = p.depth;
-    let at = p.node;
-    let low = p.low;
-    land(nodes, n, count, path, set, d, at, low)
+    let p = seek(nodes, n, count, root, s, path, set)?;
+    Some(descend(nodes, n, count, path, set, p))
 }
 
 // The first cut to be listed: of all, or of those after the set `s`.
@@ -224,26 +172,25 @@ pub fn start(
     s: &[u64],
     path: &mut [u32],
     set: &mut [u64; sets::WORDS],
-) -> Step
+) -> Option<Step>
     requires { (Open n nodes.now count path.old 0 root) × (length s.now ≡ words) × Carries nodes.now path.old 0 set.old }
-    ensures { Reached n nodes.now count path.new result.found result.depth (to_list n (den nodes.now root) begin s.now) × Carries nodes.now path.new result.depth set.new × Starts n (set_of set.new) result.kept result.low result.high }
+    ensures { MatchOption result (Ended n nodes.now count path.new set.new (to_list n (den nodes.now root) begin s.now)) (λ m. Reached n nodes.now count path.new m.depth (to_list n (den nodes.now root) begin s.now) × Carries nodes.now path.new m.depth set.new × Starts n (set_of set.new) m.kept m.low m.high) }
 {
-    if begin {
-        let m = land(nodes, n, count, path, set, 0, root, 0);
-        return Step {
-            found: m.found,
-            depth: m.depth,
+    if !begin {
+        let m = next_after(nodes, n, count, root, s, path, set)?;
+        return Some(Step {
             kept: 0,
             low: 0,
-            high: m.high,
-        };
+            ..m
+        });
     }
-    let m = next_after(nodes, n, count, root, s, path, set);
-    Step {
-        found: m.found,
-        depth: m.depth,
-        kept: 0,
+    if root == 0 {
+        return None;
+    }
+    let p = Spot {
+        node: root,
+        depth: 0,
         low: 0,
-        high: m.high,
-    }
+    };
+    Some(descend(nodes, n, count, path, set, p))
 }

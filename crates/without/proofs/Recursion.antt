@@ -4,9 +4,9 @@ use mathlib.Core.Path.{◌≡◌, sym, ap, ap₂, ◌∙◌, subst}
 use mathlib.Core.Logic.{◌⊎◌, inl, inr}
 use mathlib.Core.Bool.{true, false, true≢false}
 use mathlib.Core.List.{List}
-use Prim.Native.Nat.{ℕ, suc, ◌+◌, ◌-◌, ◌/◌, ◌<◌, ◌≤◌, min}
+use Rattle.std.specs.Prelude.{Result, Ok, Err}
+use Prim.Native.Nat.{ℕ, suc, ◌+◌, ◌<◌, ◌≤◌, min}
 use native.Mathlib.Omega.{arith}
-use lib.ListN.{length}
 use Rattle.paper.specs.Limits.{limits}
 use Rattle.paper.specs.Lists.{In}
 use Rattle.paper.specs.Diagrams.{Diagram, leaf, node, Ordered}
@@ -16,15 +16,15 @@ use Rattle.algebra.proofs.Base.{widen}
 use Rattle.algebra.proofs.Subs.{subs_self, subs_trans, mkz_subs}
 use Rattle.tables.specs.Table.{den}
 use Rattle.store.specs.Store.{Store, Grown}
-use Rattle.store.specs.Building.{Is, Part, Found, Step, Makes, Stops}
-use Rattle.store.specs.Memo.{Memo, Place}
+use Rattle.store.specs.Building.{Is, Part, Found, Step, Makes, Stops, Finishes}
+use Rattle.store.specs.Memo.{Memo}
 use Rattle.store.specs.declared.Built.{Built}
-use Rattle.store.specs.declared.Built.TheVariants.{Done, Short}
+use Rattle.store.specs.declared.Full.{Full}
 use Rattle.store.proofs.Denotes.{den_grown, found_grown}
 use Rattle.store.proofs.Building.{makes_here, makes_seq, stops_more, stops_seq, step_more, step_seq, still}
 use Rattle.store.proofs.Memory.{memo_keep, memo_map}
 use Rattle.without.specs.Reading.{Readable, top, remain}
-use Rattle.without.specs.Without.{Right, Ready, Answered, Parted, Finishes, Taken, Takes}
+use Rattle.without.specs.Without.{Right, Ready, Answered, Parted, Taken, Takes}
 use Rattle.store.specs.declared.Parts.{Parts}
 
 -- ---- parts of a node made for families
@@ -55,10 +55,6 @@ right_grown {C} {C'} {d} {d'} {T} s g m = memo_map (λ op f k r p. record {
       record { within = v.within; is = v.is ∙ ap (λ D. without_d D (den T k)) (sym (den_grown s.lower g f (p.within o))) };
 }) m
 
--- a place depends on the memo's length
-pub place_long : {M M' : List ℕ} {at : ℕ} → length M' ≡ length M → Place M at → Place M' at
-place_long q p = record { slot = p.slot; is = p.is; fits = omega (arith, p.fits) }
-
 -- ---- numbers that can be read
 
 pub readable_low : {T : List ℕ} {g k : ℕ} (m : ℕ) → Readable T g → k ≤ g → Ordered m limits.events (den T k) → Readable T k
@@ -84,14 +80,10 @@ remain_less F G F' G' e l q a b r =
 pub taken_here : {C H X : List ℕ} {d : ℕ} {M T : List ℕ} {f g r : ℕ} → Ready C H X d M T f g → Answered M f g r → Taken C d T (without_d (den C f) (den T g)) C H X M d r
 taken_here {C} {H} {X} {d} {M} {T} rd a = record { made = makes_here rd.store (a.found C H X d T rd); memo = rd.memo }
 
--- ---- a part that finds no room
-
--- the answer is handed on, with the count of a full table
-pub handed : {C₁ C : List ℕ} {d₁ d : ℕ} {A D : Diagram} {C' H' X' : List ℕ} (T M' : List ℕ) (b r : Built) {k : ℕ} → b ≡ Short k → r ≡ Short (length C' / 3)
-    → ((d' : ℕ) → Stops (Part A) C₁ d₁ C' H' X' d' → Stops (Part D) C d C' H' X' d') → Takes C₁ d₁ T A C' H' X' M' b → Takes C d T D C' H' X' M' r
-handed T M' (Done x d') r e q f t = let z : ◌≡◌ {A = ℕ} 0 1 = cc in absurd (omega arith)
-handed {C = C} {d = d} {D = D} {C' = C'} {H' = H'} {X' = X'} T M' (Short d') r e q f t =
-    subst (Takes C d T D C' H' X' M') (sym q) (subst (Stops (Part D) C d C' H' X') t.lacks.full (f d' t))
+-- the same, said of what two ways of the code have come to
+pub taken_is : {C : List ℕ} {d : ℕ} {T : List ℕ} {D : Diagram} {C₁ H₁ X₁ M₁ C₂ H₂ X₂ M₂ : List ℕ} {b₁ b₂ : Built} → C₂ ≡ C₁ → H₂ ≡ H₁ → X₂ ≡ X₁ → M₂ ≡ M₁ → b₂ ≡ b₁
+    → Taken C d T D C₁ H₁ X₁ M₁ b₁.count b₁.node → Taken C d T D C₂ H₂ X₂ M₂ b₂.count b₂.node
+taken_is c h x m b t = rw (c, h, x, m, b) t
 
 -- ---- the recursion
 
@@ -99,7 +91,7 @@ module _ {C H X : List ℕ} {d : ℕ} {M T : List ℕ} {f g : ℕ} {p : Parts} (
   abbrev D : Diagram
   D = without_d (den C f) (den T g)
 
-  abbrev A : Diagram
+  abbrev pub A : Diagram
   A = without_d (den C p.f1) (den T p.g1)
 
   abbrev B : Diagram
@@ -136,7 +128,7 @@ module _ {C H X : List ℕ} {d : ℕ} {M T : List ℕ} {f g : ℕ} {p : Parts} (
     later_0 : Ordered (suc p.e) limits.events (den C₁ p.f0)
     later_0 = subst (Ordered (suc p.e) limits.events) (sym same_0) k.f0_later
 
-    abbrev B₁ : Diagram
+    abbrev pub B₁ : Diagram
     B₁ = without_d (den C₁ p.f0) (den T p.g0)
 
     same_B : B₁ ≡ B
@@ -195,11 +187,11 @@ module _ {C H X : List ℕ} {d : ℕ} {M T : List ℕ} {f g : ℕ} {p : Parts} (
         right_kept m = makes_seq step_2 (record { step = step_more self_in m.step; found = record { within = m.found.within; is = m.found.is ∙ whole } })
 
       -- the node over both results is f without g
-      pub finished : (C₃ H₃ X₃ M₃ : List ℕ) (r : Built) → Finishes C₂ d₂ made C₃ H₃ X₃ M₂ f g M₃ r → Takes C d T D C₃ H₃ X₃ M₃ r
-      finished C₃ H₃ X₃ M₃ (Done r d₃) q =
-          let m = right_kept q.made in record {
+      pub finished : (C₃ H₃ X₃ M₃ : List ℕ) (r : Result Built Full) → Finishes C₂ M₂ d₂ made 3 f g C₃ H₃ X₃ M₃ r → Takes C d T D C₃ H₃ X₃ M₃ r
+      finished C₃ H₃ X₃ M₃ (Ok r) q =
+          let m = right_kept q.makes in record {
             made = m;
-            memo = memo_keep (right_grown store_2 q.made.step.grown b.memo)
+            memo = memo_keep (right_grown store_2 q.makes.step.grown b.memo)
                 (record {
                   within = λ _. let u = rd.family.within in let w = m.step.grown.more in omega arith;
                   found = λ _. record {
@@ -207,6 +199,6 @@ module _ {C H X : List ℕ} {d : ℕ} {M T : List ℕ} {f g : ℕ} {p : Parts} (
                     is = m.found.is ∙ ap (λ x. without_d x (den T g)) (sym (den_grown rd.store.lower m.step.grown f rd.family.within));
                   };
                 })
-                q.kept;
+                q.keeps;
           }
-      finished C₃ H₃ X₃ M₃ (Short d₃) q = stops_seq step_2 (stops_more self_in q)
+      finished C₃ H₃ X₃ M₃ (Err x) q = stops_seq step_2 (stops_more self_in q)

@@ -1,15 +1,15 @@
 -- F without G over two tables: F is a family, number f of the cut table C with d nodes; G is a function, number g of the node table T.
 -- Assumes nothing.
-use Rattle.std.specs.Prelude.{◌≡◌, List, ℕ, suc, ◌+◌, ◌<◌, ◌≤◌, min}
+use Rattle.std.specs.Prelude.{◌≡◌, List, ℕ, suc, ◌+◌, ◌<◌, ◌≤◌, min, Result, Ok, Err}
 use Rattle.paper.specs.Limits.{limits}
 use Rattle.paper.specs.Diagrams.{Diagram, node, Ordered}
 use Rattle.algebra.specs.Families.{mk_z, without_d}
 use Rattle.tables.specs.Table.{den}
 use Rattle.store.specs.Store.{Store}
-use Rattle.store.specs.Building.{Is, Part, Found, Makes, Stops}
-use Rattle.store.specs.Memo.{Memo, Place, Keeps}
+use Rattle.store.specs.Building.{Part, Found, Makes, Stops}
+use Rattle.store.specs.Memo.{Memo, Place}
 use Rattle.store.specs.declared.Built.{Built}
-use Rattle.store.specs.declared.Built.TheVariants.{Done, Short}
+use Rattle.store.specs.declared.Full.{Full}
 use Rattle.store.specs.declared.Known.{Known}
 use Rattle.store.specs.declared.Known.TheVariants.{Node, Unknown}
 use Rattle.store.specs.declared.Parts.{Parts}
@@ -68,20 +68,11 @@ pub record Parted (C T : List ℕ) (f g : ℕ) (p : Parts) : Type 0 where
   pub g0_later : Ordered (suc p.e) limits.events (den T p.g0)
   pub splits : without_d (den C f) (den T g) ≡ mk_z p.e (without_d (den C p.f1) (den T p.g1)) (without_d (den C p.f0) (den T p.g0))
 
--- the node D is made, and the memo keeps it as the result of f without g
-pub record Finished (C : List ℕ) (d : ℕ) (D : Diagram) (C' H' X' M : List ℕ) (f g : ℕ) (M' : List ℕ) (d' r : ℕ) : Type 0 where
-  pub made : Makes (Is D) C d D C' H' X' d' r
-  pub kept : Keeps M 3 f g r M'
-
-abbrev pub Finishes : (C : List ℕ) (d : ℕ) (D : Diagram) (C' H' X' M : List ℕ) (f g : ℕ) (M' : List ℕ) → Built → Type 0
-Finishes C d D C' H' X' M f g M' (Done r d') = Finished C d D C' H' X' M f g M' d' r
-Finishes C d D C' H' X' M f g M' (Short d') = Stops (Is D) C d C' H' X' d'
-
 -- the family D stands in the cut table, which grew by nodes of D alone
 pub record Taken (C : List ℕ) (d : ℕ) (T : List ℕ) (D : Diagram) (C' H' X' M' : List ℕ) (d' r : ℕ) : Type 0 where
   pub made : Makes (Part D) C d D C' H' X' d' r
   pub memo : Memo (Right C' d' T) M'
 
-abbrev pub Takes : (C : List ℕ) (d : ℕ) (T : List ℕ) (D : Diagram) (C' H' X' M' : List ℕ) → Built → Type 0
-Takes C d T D C' H' X' M' (Done r d') = Taken C d T D C' H' X' M' d' r
-Takes C d T D C' H' X' M' (Short d') = Stops (Part D) C d C' H' X' d'
+abbrev pub Takes : (C : List ℕ) (d : ℕ) (T : List ℕ) (D : Diagram) (C' H' X' M' : List ℕ) → Result Built Full → Type 0
+Takes C d T D C' H' X' M' (Ok b) = Taken C d T D C' H' X' M' b.count b.node
+Takes C d T D C' H' X' M' (Err x) = Stops (Part D) C d C' H' X' x.count

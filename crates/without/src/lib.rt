@@ -1,26 +1,20 @@
 // F without G: the sets of a cut diagram that do not make a function fail. F stands in the cut table, G in the node table.
 #![tactic(auto)]
 
-ghost use Rattle.std.specs.Prelude.{◌≡◌, ◌+◌, ◌/◌, ◌<◌, ◌≤◌, length};
-ghost use Rattle.algebra.specs.Families.{mk_z, without_d};
+ghost use Rattle.std.specs.Prelude.{◌≡◌, ◌+◌, ◌<◌, ◌≤◌};
+ghost use Rattle.algebra.specs.Families.{without_d};
 ghost use Rattle.tables.specs.Table.{den};
 ghost use Rattle.store.specs.Store.{Store};
-ghost use Rattle.store.specs.Memo.{Places, Place};
+ghost use Rattle.store.specs.Memo.{Places};
 ghost use Rattle.without.specs.Reading.{Readable};
-ghost use Rattle.without.specs.Without.{Family, Ready, Asked, Missed, Passed, Parted, Finishes, Takes};
+ghost use Rattle.without.specs.Without.{Family, Ready, Asked, Missed, Passed, Parted, Takes};
 
-use store::{Built, Known, Parts};
+use store::{Built, Full, Known, Parts, finish};
 
 fn branches(e: u32, f1: u32, g1: u32, f0: u32, g0: u32) -> Parts
     ensures { result ≡ record { e = e; f1 = f1; g1 = g1; f0 = f0; g0 = g0 } }
 {
-    Parts {
-        e: e,
-        f1: f1,
-        g1: g1,
-        f0: f0,
-        g0: g0,
-    }
+    Parts { e, f1, g1, f0, g0 }
 }
 
 // What is known without taking F and G apart: a leaf, or what the memo says.
@@ -91,42 +85,6 @@ fn take_apart(
     branches(x, cut[i + 1], nodes[j + 1], cut[i + 2], nodes[j + 2])
 }
 
-// Makes the node over the two results, and keeps it in the memo as that of f without g.
-fn finish(
-    cut: &mut [u32],
-    heads: &mut [u32],
-    next: &mut [u32],
-    memo: &mut [u32],
-    count: usize,
-    f: u32,
-    g: u32,
-    at: usize,
-    e: u32,
-    failed: u32,
-    sound: u32,
-) -> Built
-    requires store { Store cut.old heads.old next.old count }
-    requires place { Place memo.old at }
-    requires failed_bound { failed < count + 2 }
-    requires sound_bound { sound < count + 2 }
-    ensures { Finishes cut.old count (mk_z e (den cut.old failed) (den cut.old sound)) cut.new heads.new next.new memo.old f g memo.new result }
-{
-    match store::make_z(cut, heads, next, count, e, failed, sound) {
-        Built::Short(c) => Built::Short(c),
-        Built::Done(r, c) => {
-            store::keep(memo, at, 3, f, g, r);
-            Built::Done(r, c)
-        }
-    }
-}
-
-// The answer where the cut table is full: it has as many nodes as it has room for.
-fn full(cut: &[u32]) -> Built
-    ensures { result ≡ Built.Short (length cut.now / 3) }
-{
-    Built::Short(cut.len() / 3)
-}
-
 // f without g, neither of them a leaf and not in the memo: F1 without G1 joined with F2 without G2 under the earlier event.
 fn without_nodes(
     cut: &mut [u32],
@@ -138,40 +96,30 @@ fn without_nodes(
     f: u32,
     g: u32,
     at: usize,
-) -> Built
+) -> Result<Built, Full>
     requires ready { Ready cut.old heads.old next.old count memo.old nodes.now f g }
     requires missed { Missed memo.old f g at }
     ensures { Takes cut.old count nodes.now (without_d (den cut.old f) (den nodes.now g)) cut.new heads.new next.new memo.new result }
 {
     let p = take_apart(cut, heads, next, nodes, count, f, g);
-    match ask(memo, p.f1, p.g1) {
-        Known::Node(r1) => match ask(memo, p.f0, p.g0) {
-            Known::Node(r0) => finish(cut, heads, next, memo, count, f, g, at, p.e, r1, r0),
-            Known::Unknown(at0) => {
-                let b = without_nodes(cut, heads, next, memo, nodes, count, p.f0, p.g0, at0);
-                let Built::Done(r0, c0) = b else {
-                    return full(cut);
-                };
-                finish(cut, heads, next, memo, c0, f, g, at, p.e, r1, r0)
-            }
+    let a = match ask(memo, p.f1, p.g1) {
+        Known::Node(node) => Built { node, count },
+        Known::Unknown(at1) => without_nodes(
+            cut, heads, next, memo, nodes, count, p.f1, p.g1, at1,
+        )?,
+    };
+    let b = match ask(memo, p.f0, p.g0) {
+        Known::Node(node) => Built {
+            node,
+            count: a.count,
         },
-        Known::Unknown(at1) => {
-            let a = without_nodes(cut, heads, next, memo, nodes, count, p.f1, p.g1, at1);
-            let Built::Done(r1, c1) = a else {
-                return full(cut);
-            };
-            match ask(memo, p.f0, p.g0) {
-                Known::Node(r0) => finish(cut, heads, next, memo, c1, f, g, at, p.e, r1, r0),
-                Known::Unknown(at0) => {
-                    let b = without_nodes(cut, heads, next, memo, nodes, c1, p.f0, p.g0, at0);
-                    let Built::Done(r0, c0) = b else {
-                        return full(cut);
-                    };
-                    finish(cut, heads, next, memo, c0, f, g, at, p.e, r1, r0)
-                }
-            }
-        }
-    }
+        Known::Unknown(at0) => without_nodes(
+            cut, heads, next, memo, nodes, a.count, p.f0, p.g0, at0,
+        )?,
+    };
+    finish(
+        cut, heads, next, memo, b.count, 3, f, g, at, p.e, a.node, b.node, 0,
+    )
 }
 
 // f without g.
@@ -184,12 +132,12 @@ pub fn without(
     count: usize,
     f: u32,
     g: u32,
-) -> Built
+) -> Result<Built, Full>
     requires { Ready cut.old heads.old next.old count memo.old nodes.now f g }
     ensures { Takes cut.old count nodes.now (without_d (den cut.old f) (den nodes.now g)) cut.new heads.new next.new memo.new result }
 {
     match ask(memo, f, g) {
-        Known::Node(r) => Built::Done(r, count),
+        Known::Node(node) => Ok(Built { node, count }),
         Known::Unknown(at) => without_nodes(cut, heads, next, memo, nodes, count, f, g, at),
     }
 }

@@ -15,10 +15,25 @@ fn put_event(b: &mut [u8], kind: u8, c: u32)
     ensures { b.new ≡ kind ∷ c % 256 ∷ c / 256 % 256 ∷ c / 65536 % 256 ∷ c / 16777216 ∷ drop 5 b.old }
 {
     b[0] = kind;
-    b[1] = (c % 256) as u8;
-    b[2] = (c / 256 % 256) as u8;
-    b[3] = (c / 65536 % 256) as u8;
-    b[4] = (c / 16777216) as u8;
+    b[1..5].copy_from_slice(&c.to_le_bytes());
+}
+
+// The same, with a site.
+fn put_sited_event(b: &mut [u8], c: u32, site: u16)
+    requires { 7 ≤ length b.old }
+    ensures { b.new ≡ 17 ∷ c % 256 ∷ c / 256 % 256 ∷ c / 65536 % 256 ∷ c / 16777216 ∷ site % 256 ∷ site / 256 ∷ drop 7 b.old }
+{
+    put_event(b, 17, c);
+    b[5..7].copy_from_slice(&site.to_le_bytes());
+}
+
+// Writes the kind of an input whose number takes two bytes, and the number.
+fn put_wide(b: &mut [u8], kind: u8, n: u16)
+    requires { 3 ≤ length b.old }
+    ensures { b.new ≡ kind ∷ n % 256 ∷ n / 256 ∷ drop 3 b.old }
+{
+    b[0] = kind;
+    b[1..3].copy_from_slice(&n.to_le_bytes());
 }
 
 fn put_gate(b: &mut [u8], kind: u8, k: u8, n: u8)
@@ -45,9 +60,7 @@ pub fn put(b: &mut [u8], r: Record)
             put_event(b, 1, c);
         }
         Record::SitedEvent(c, site) => {
-            put_event(b, 17, c);
-            b[5] = (site % 256) as u8;
-            b[6] = (site / 256) as u8;
+            put_sited_event(b, c, site);
         }
         Record::Gate(kind, k, n) => {
             put_gate(b, kind, k, n);
@@ -57,14 +70,10 @@ pub fn put(b: &mut [u8], r: Record)
             b[1] = e;
         }
         Record::GateInput(g) => {
-            b[0] = 6;
-            b[1] = (g % 256) as u8;
-            b[2] = (g / 256) as u8;
+            put_wide(b, 6, g);
         }
         Record::WideInput(e) => {
-            b[0] = 8;
-            b[1] = (e % 256) as u8;
-            b[2] = (e / 256) as u8;
+            put_wide(b, 8, e);
         }
         Record::End => {
             b[0] = 7;
@@ -100,14 +109,14 @@ pub fn emit(t: Tree, room: &mut [u8])
         );
         put(&mut room[at..], r);
         match admit(s, at + width(r), r) {
-            Step::AddEvent(_, _, sited, after) => s = past_event(s, sited, after),
-            Step::AddGate(_, _, size, after) => s = past_gate(s, size, after),
-            Step::AddInput(_, after) => s = past_input(s, after),
-            Step::Close => {
+            Ok(Step::AddEvent(_, _, sited, after)) => s = past_event(s, sited, after),
+            Ok(Step::AddGate(_, _, size, after)) => s = past_gate(s, size, after),
+            Ok(Step::AddInput(_, after)) => s = past_input(s, after),
+            Ok(Step::Close) => {
                 return;
             }
             // No record of an accepted tree is refused.
-            Step::Refused(_) => {
+            Err(_) => {
                 return;
             }
         }

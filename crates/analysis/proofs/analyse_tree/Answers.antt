@@ -2,12 +2,14 @@
 use mathlib.Core.Path.{refl}
 use Rattle.analysis.specs.Filling.{Tried}
 use Rattle.analysis.proofs.Flags.{denied, granted}
+use Rattle.paper.specs.declared.refusal.Refusal.TheVariants.{Length}
+use Rattle.memory.proofs.Refusing.{refuses}
 use borrow.Author.Rules.{rules}
 use Rattle.analysis.proofs.analyse_tree.Goals as goal
 
 pub returns-then-not-lengths_ok : goal.returns-then-not-lengths_ok
 returns-then-not-lengths_ok c =
-    Tried.bad_length (denied c.lengths_ok.result c.lengths_ok.ensures c.if-not-lengths_ok.true-raw) c.refused.ensures refl
+    Tried.bad_length (denied c.lengths_ok.result c.lengths_ok.ensures c.if-not-lengths_ok.true-raw) (refuses Length 0) refl
 
 pub fill-requires : goal.fill-requires
 fill-requires c =

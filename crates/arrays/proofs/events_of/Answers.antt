@@ -1,13 +1,9 @@
 -- `arrays::events_of` meets its contract. Assumes nothing.
-use borrow.Author.Rules.{rules}
 use native.Mathlib.Omega.{arith}
 use mathlib.Core.Path.{refl}
-use Prim.Native.Nat.{◌-◌}
-use lib.ListN.{get_or}
-use Rattle.paper.specs.Limits.{limits}
 use Rattle.records.specs.Memory.{no_event}
 use Rattle.arrays.specs.Chances.{events_of}
-use Rattle.arrays.proofs.Filling.{Filled, filled_none, filled_more, filled_all}
+use Rattle.arrays.proofs.Filling.{filled_none, filled_more, filled_all}
 use Rattle.arrays.proofs.events_of.Goals as goal
 
 pub loop-i-init : goal.loop-i-init

@@ -1,17 +1,9 @@
 -- `arrays::events_of` meets its contract. Assumes nothing.
-use borrow.Author.Rules.{rules}
-use native.Mathlib.Omega.{arith}
-use mathlib.Core.Path.{refl}
-use Prim.Native.Nat.{◌-◌}
 use lib.ListN.{get_or}
 use Rattle.paper.specs.Limits.{limits}
 use Rattle.records.specs.Memory.{no_event}
-use Rattle.arrays.specs.Chances.{events_of}
-use Rattle.arrays.proofs.Filling.{Filled, filled_none, filled_more, filled_all}
+use Rattle.arrays.proofs.Filling.{Filled}
 use Rattle.arrays.proofs.events_of.Given as goal
 
 abbrev pub invariant-loop-i : goal.invariant-loop-i
 invariant-loop-i l = Filled (λ e. record { chance = get_or l.chances e 0; site = get_or l.sites e 0 }) no_event limits.events l.events l.i
-
-abbrev pub decreases-loop-i : goal.decreases-loop-i
-decreases-loop-i l = limits.events - l.i

@@ -1,9 +1,8 @@
 -- `arrays::put_events` meets its contract. Assumes nothing.
-use borrow.Author.Rules.{rules}
 use native.Mathlib.Omega.{arith}
 use mathlib.Core.Path.{◌≡◌, refl, ap}
 use mathlib.Core.List.{List}
-use Prim.Native.Nat.{ℕ, ◌-◌, ◌≤◌, ◌<◌}
+use Prim.Native.Nat.{ℕ, ◌≤◌, ◌<◌, min}
 use lib.ListN.{get_or}
 use Rattle.paper.specs.Limits.{limits}
 use Rattle.records.specs.Memory.{no_event}
@@ -31,5 +30,5 @@ loop-i-preserved c = (front_more _ 0 c.loop-i.invariant.0 (omega arith), front_m
 
 pub returns : goal.returns
 returns c =
-    let both = at-the-end _ c.requires c.at_most-end.ensures.1 c.loop-i.invariant (omega arith) in
+    let both = at-the-end _ {end = min c.args.count limits.events} c.requires (λ h. omega arith) c.loop-i.invariant (omega arith) in
     record { chances_after = both.0; sites_after = both.1 }

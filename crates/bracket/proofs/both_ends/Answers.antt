@@ -1,6 +1,5 @@
 -- `bracket::both_ends` meets its contract. Assumes nothing.
-use mathlib.Core.Path.{refl, ap, ◌∙◌}
-use lib.ListN.{replicate}
+use mathlib.Core.Path.{refl}
 use Rattle.bracket.proofs.Pass.{low_read, high_read}
 use borrow.Author.Rules.{rules}
 use Rattle.bracket.proofs.both_ends.Goals as goal
@@ -12,6 +11,6 @@ returns c =
       no_place = refl;
       low_is = low_read c.requires.0.lent.root_in c.number_in-low.ensures c.fill_all.ensures.0;
       high_is = high_read c.requires.0.lent.root_in c.number_in-high.ensures c.fill_all.ensures.1;
-      lows = c.clear.ensures ∙ ap (λ k. replicate k 0) c.fill_all.auto.lows;
-      highs = c.clear-2.ensures ∙ ap (λ k. replicate k 0) c.fill_all.auto.highs;
+      lows = search rules;
+      highs = search rules;
     }

@@ -1,16 +1,9 @@
 -- `build::next_gate`
-use borrow.Author.Rules.{rules}
 use mathlib.Core.List.{map}
 use native.Mathlib.Omega.{arith}
 use Rattle.tables.specs.Table.{den}
 use Rattle.build.proofs.Gates.{gate_fits, gate_own, gate_least, gate_is}
 use Rattle.build.proofs.next_gate.Goals as goal
-
-pub bounds-sizes-g : goal.bounds-sizes-g
-bounds-sizes-g c = omega (arith, c.requires.g_in_bounds)
-
-pub overflow_cast-end : goal.overflow_cast-end
-overflow_cast-end c = omega (arith, c.requires.plan.few _ c.requires.g_in_bounds)
 
 pub overflow_add-end : goal.overflow_add-end
 overflow_add-end c = omega (arith, gate_fits c.requires.plan c.requires.g_in_bounds c.requires.at_value, c.well_formed.1.1.1.1.1.1.1.1.0)
@@ -29,6 +22,3 @@ gate_node-requires c =
       own = gate_own c.requires.plan c.requires.g_in_bounds c.requires.at_value _ c.requires.sizes_in_bounds;
       k_le_inputs = gate_least c.requires.plan c.requires.g_in_bounds c.requires.at_value;
     }
-
-pub returns : goal.returns
-returns c = gate_is c.requires.plan c.requires.g_in_bounds c.requires.at_value (map (den c.args.nodes.now) c.args.gates.now) c.args.nodes.now c.args.count c.gate_node.new.nodes c.gate_node.new.heads c.gate_node.new.next c.gate_node.new.memo c.gate_node.result c.gate_node.ensures

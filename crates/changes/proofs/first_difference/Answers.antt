@@ -1,40 +1,37 @@
 -- `changes::first_difference` meets its contract. Assumes nothing.
-use borrow.Author.Rules.{rules}
 use native.Mathlib.Omega.{arith}
 use mathlib.Core.Path.{refl}
-use Rattle.sidebyside.specs.declared.Which.TheVariants.{Equal, Yesterday, Today, BadYesterday, BadToday}
-use Rattle.changes.proofs.Stretches.{shows_low, shows_inside}
+use Rattle.std.specs.Prelude.{Some, None, Ok, Err}
+use Rattle.sidebyside.specs.declared.Side.TheVariants.{Yesterday, Today}
+use Rattle.changes.proofs.Stretches.{shows_low, shows_inside, shows_in}
 use Rattle.changes.proofs.first_difference.Goals as goal
 
-pub slice_bounds-result-count-in-OfYesterday : goal.slice_bounds-result-count-in-OfYesterday
-slice_bounds-result-count-in-OfYesterday c = omega (arith, shows_low (rw c.in-OfYesterday.is at c.find-d.ensures))
+pub slice_bounds-result-count : goal.slice_bounds-result-count
+slice_bounds-result-count c = omega (arith, shows_low (shows_in c.args.yesterday.now c.args.today.now c.in-Ok-Some.ensures c.in-Ok-Some.field-0-is c.in-Yesterday.is))
 
-pub slice_bounds-result-start-in-OfYesterday : goal.slice_bounds-result-start-in-OfYesterday
-slice_bounds-result-start-in-OfYesterday c = shows_low (rw c.in-OfYesterday.is at c.find-d.ensures)
+pub slice_bounds-result-start : goal.slice_bounds-result-start
+slice_bounds-result-start c = shows_low (shows_in c.args.yesterday.now c.args.today.now c.in-Ok-Some.ensures c.in-Ok-Some.field-0-is c.in-Yesterday.is)
 
-pub slice_bounds-result-end-in-OfYesterday : goal.slice_bounds-result-end-in-OfYesterday
-slice_bounds-result-end-in-OfYesterday c = shows_inside (rw c.in-OfYesterday.is at c.find-d.ensures)
+pub slice_bounds-result-end : goal.slice_bounds-result-end
+slice_bounds-result-end c = shows_inside (shows_in c.args.yesterday.now c.args.today.now c.in-Ok-Some.ensures c.in-Ok-Some.field-0-is c.in-Yesterday.is)
 
-pub slice_bounds-result-count-in-OfToday : goal.slice_bounds-result-count-in-OfToday
-slice_bounds-result-count-in-OfToday c = omega (arith, shows_low (rw c.in-OfToday.is at c.find-d.ensures))
+pub slice_bounds-result-count-in-Today : goal.slice_bounds-result-count-in-Today
+slice_bounds-result-count-in-Today c = omega (arith, shows_low (shows_in c.args.yesterday.now c.args.today.now c.in-Ok-Some.ensures c.in-Ok-Some.field-0-is c.in-Today.is))
 
-pub slice_bounds-result-start-in-OfToday : goal.slice_bounds-result-start-in-OfToday
-slice_bounds-result-start-in-OfToday c = shows_low (rw c.in-OfToday.is at c.find-d.ensures)
+pub slice_bounds-result-start-in-Today : goal.slice_bounds-result-start-in-Today
+slice_bounds-result-start-in-Today c = shows_low (shows_in c.args.yesterday.now c.args.today.now c.in-Ok-Some.ensures c.in-Ok-Some.field-0-is c.in-Today.is)
 
-pub slice_bounds-result-end-in-OfToday : goal.slice_bounds-result-end-in-OfToday
-slice_bounds-result-end-in-OfToday c = shows_inside (rw c.in-OfToday.is at c.find-d.ensures)
+pub slice_bounds-result-end-in-Today : goal.slice_bounds-result-end-in-Today
+slice_bounds-result-end-in-Today c = shows_inside (shows_in c.args.yesterday.now c.args.today.now c.in-Ok-Some.ensures c.in-Ok-Some.field-0-is c.in-Today.is)
 
-pub returns-in-Alike : goal.returns-in-Alike
-returns-in-Alike c = record { side = Equal; sides = rw c.in-Alike.is at c.find-d.ensures; is = refl }
+pub returns-in-Yesterday : goal.returns-in-Yesterday
+returns-in-Yesterday c = record { side = Ok (Some Yesterday); sides = (_, _, shows_in c.args.yesterday.now c.args.today.now c.in-Ok-Some.ensures c.in-Ok-Some.field-0-is c.in-Yesterday.is); is = record { start = _; end = _; shows = shows_in c.args.yesterday.now c.args.today.now c.in-Ok-Some.ensures c.in-Ok-Some.field-0-is c.in-Yesterday.is; is = refl } }
 
-pub returns-in-OfYesterday : goal.returns-in-OfYesterday
-returns-in-OfYesterday c = record { side = Yesterday; sides = (_, _, (rw c.in-OfYesterday.is at c.find-d.ensures)); is = record { start = _; end = _; shows = (rw c.in-OfYesterday.is at c.find-d.ensures); is = refl } }
+pub returns-in-Today : goal.returns-in-Today
+returns-in-Today c = record { side = Ok (Some Today); sides = (_, _, shows_in c.args.yesterday.now c.args.today.now c.in-Ok-Some.ensures c.in-Ok-Some.field-0-is c.in-Today.is); is = record { start = _; end = _; shows = shows_in c.args.yesterday.now c.args.today.now c.in-Ok-Some.ensures c.in-Ok-Some.field-0-is c.in-Today.is; is = refl } }
 
-pub returns-in-OfToday : goal.returns-in-OfToday
-returns-in-OfToday c = record { side = Today; sides = (_, _, (rw c.in-OfToday.is at c.find-d.ensures)); is = record { start = _; end = _; shows = (rw c.in-OfToday.is at c.find-d.ensures); is = refl } }
+pub returns-in-Ok-None : goal.returns-in-Ok-None
+returns-in-Ok-None c = record { side = Ok None; sides = rw c.in-Ok-None.field-0-is at c.in-Ok-None.ensures; is = refl }
 
-pub returns-in-FaultYesterday : goal.returns-in-FaultYesterday
-returns-in-FaultYesterday c = record { side = BadYesterday; sides = rw c.in-FaultYesterday.is at c.find-d.ensures; is = refl }
-
-pub returns-in-FaultToday : goal.returns-in-FaultToday
-returns-in-FaultToday c = record { side = BadToday; sides = rw c.in-FaultToday.is at c.find-d.ensures; is = refl }
+pub returns-in-Err : goal.returns-in-Err
+returns-in-Err c = record { side = Err _; sides = c.in-Err.ensures; is = refl }

@@ -19,10 +19,10 @@ next_room-r-requires c =
     }
 
 pub returns-then-r : goal.returns-then-r
-returns-then-r c = count_end c.loop-room.invariant c.next_room-r.ensures c.wrapping_add_u64-total.ensures.value c.if-r.true
+returns-then-r c = count_end c.loop-room.invariant c.next_room-r.ensures refl c.if-r.true
 
 pub loop-room-smaller : goal.loop-room-smaller
 loop-room-smaller c = fewer c.next_room-r.ensures c.if-r.false
 
 pub loop-room-preserved : goal.loop-room-preserved
-loop-room-preserved c = count_more c.loop-room.invariant c.next_room-r.ensures c.wrapping_add_u64-total.ensures.value c.next_room-r.auto.room
+loop-room-preserved c = count_more c.loop-room.invariant c.next_room-r.ensures refl c.next_room-r.auto.room

@@ -1,9 +1,5 @@
 -- `decimals::digits` meets its contract. Assumes nothing.
-use borrow.Author.Rules.{rules}
-use mathlib.Core.Path.{sym, ◌∙◌}
-use lib.ListN.{length-set}
-use native.Mathlib.Omega.{arith}
-use Rattle.decimals.proofs.Decimals.{Half, half_none, half_more, half_end}
+use Rattle.decimals.proofs.Decimals.{Half}
 use Rattle.decimals.proofs.digits.Given as goal
 
 abbrev pub invariant-loop-rest : goal.invariant-loop-rest

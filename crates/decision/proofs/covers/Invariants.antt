@@ -1,12 +1,8 @@
 -- `decision::covers` meets its contract. Assumes nothing.
-use borrow.Author.Rules.{rules}
-use borrow.Author.Tests.{not-true, not-false}
-use mathlib.Core.Path.{sym, ◌∙◌}
-use native.Mathlib.Omega.{arith}
 use Prim.Native.Nat.{◌-◌}
 use lib.ListN.{length}
 use Rattle.sets.specs.Words.{set_of}
-use Rattle.decision.proofs.Looking.{Looking, look_start, look_end, look_out, look_room, look_whole, look_step}
+use Rattle.decision.proofs.Looking.{Looking}
 use Rattle.decision.proofs.covers.Given as goal
 
 abbrev pub invariant-loop-e : goal.invariant-loop-e

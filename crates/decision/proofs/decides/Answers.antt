@@ -10,15 +10,15 @@ use Rattle.decision.proofs.Looking.{beyond_low, not_beyond}
 use Rattle.decision.proofs.Contains.{refused_now, decided_now}
 use Rattle.decision.proofs.decides.Goals as goal
 
+pub returns-in_default : goal.returns-in_default
+returns-in_default c = bad_listing c.in_default.ensures (refused_now 20)
+
 pub returns-then-lowest-lt-MOST : goal.returns-then-lowest-lt-MOST
 returns-then-lowest-lt-MOST c =
     let long : length c.args.s ≡ words = search rules in
-    beyond (held_good (rw c.in-Contains.is at c.search-o.ensures).held) (beyond_low c.args.s c.lowest.ensures (omega (arith, long, c.if-lowest-lt-MOST.true))) (refused_now 13 c.answered-then-lowest-lt-MOST.ensures)
+    beyond (held_good c.in-Some.ensures.held) (beyond_low c.args.s c.lowest.ensures (omega (arith, long, c.if-lowest-lt-MOST.true))) (refused_now 13)
 
-pub returns-in-Fault : goal.returns-in-Fault
-returns-in-Fault c = bad_listing (rw c.in-Fault.is at c.search-o.ensures) (refused_now 20 c.answered.ensures)
-
-pub returns-else-lowest-lt-MOST : goal.returns-else-lowest-lt-MOST
-returns-else-lowest-lt-MOST c =
+pub returns : goal.returns
+returns c =
     let long : length c.args.s ≡ words = search rules in
-    decided_now (rw c.in-Contains.is at c.search-o.ensures) (not_beyond c.args.s c.lowest.ensures (omega (arith, long, c.if-lowest-lt-MOST.false))) c.answered-in-Contains.ensures
+    decided_now c.in-Some.ensures (not_beyond c.args.s c.lowest.ensures (omega (arith, long, c.if-lowest-lt-MOST.false)))

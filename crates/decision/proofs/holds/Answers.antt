@@ -1,9 +1,5 @@
 -- `decision::holds` meets its contract. Assumes nothing.
-use borrow.Author.Rules.{rules}
-use mathlib.Core.Path.{◌≡◌}
 use native.Mathlib.Omega.{arith}
-use lib.ListN.{length}
-use Rattle.sets.specs.Words.{words}
 use Rattle.decision.proofs.Looking.{holds_lowest}
 use Rattle.decision.proofs.holds.Goals as goal
 

@@ -1,10 +1,6 @@
 -- `decision::search` meets its contract. Assumes nothing.
-use borrow.Author.Rules.{rules}
 use native.Mathlib.Omega.{arith}
-use Prim.Native.Nat.{◌-◌}
-use lib.ListN.{length}
-use Rattle.sets.specs.Words.{set_of}
-use Rattle.decision.proofs.Looking.{Searching, search_start, search_fault, search_end, search_on, search_rises, search_whole, search_next}
+use Rattle.decision.proofs.Looking.{search_start, search_fault, search_end, search_on, search_rises, search_whole, search_next}
 use Rattle.decision.proofs.search.Goals as goal
 
 pub loop-e-init : goal.loop-e-init

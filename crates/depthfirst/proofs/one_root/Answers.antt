@@ -1,14 +1,13 @@
 -- `depthfirst::one_root` meets its contract. Assumes nothing.
-use borrow.Author.Rules.{rules}
 use native.Mathlib.Omega.{arith}
 use Rattle.depthfirst.proofs.Rooting.{root_none, root_two, root_one}
 use Rattle.depthfirst.proofs.one_root.Goals as goal
 
-pub returns-then-count-root : goal.returns-then-count-root
-returns-then-count-root c = root_none c.mark_inputs.ensures c.first_bare-root.ensures c.if-count-root.true
+pub returns-in_err-root : goal.returns-in_err-root
+returns-in_err-root c = rw c.from_residual.ensures (root_none c.mark_inputs.ensures (rw c.in_err-root.was at c.first_bare.ensures) (omega arith))
 
-pub returns-then-next-count : goal.returns-then-next-count
-returns-then-next-count c = root_two c.mark_inputs.ensures c.first_bare-root.ensures c.if-count-root.false c.first_bare-next.ensures (omega (arith, c.if-next-count.true, c.first_bare-next.ensures.low))
+pub returns-in-Some : goal.returns-in-Some
+returns-in-Some c = root_two c.mark_inputs.ensures (rw c.in_ok-root.was at c.first_bare.ensures).1 (rw c.in_ok-root.was at c.first_bare.ensures).0 c.in-Some.ensures.1 c.in-Some.ensures.0
 
-pub returns : goal.returns
-returns c = root_one c.mark_inputs.ensures c.first_bare-root.ensures c.if-count-root.false c.first_bare-next.ensures (omega (arith, c.if-next-count.false))
+pub returns-in-None : goal.returns-in-None
+returns-in-None c = root_one c.mark_inputs.ensures (rw c.in_ok-root.was at c.first_bare.ensures).1 (rw c.in_ok-root.was at c.first_bare.ensures).0 c.in-None.ensures (omega arith)

@@ -1,5 +1,4 @@
 -- `depthfirst::walk` meets its contract. Assumes nothing.
-use borrow.Author.Rules.{rules}
 use native.Mathlib.Omega.{arith}
 use mathlib.Core.Path.{refl}
 use Rattle.depthfirst.proofs.All.{rooms_kept, idle_clear, walks_of}

@@ -1,14 +1,10 @@
 -- `depthfirst::walk_on` meets its contract. Assumes nothing.
-use borrow.Author.Rules.{rules}
-use native.Mathlib.Omega.{arith}
-use mathlib.Core.Path.{◌≡◌, refl, ◌∙◌}
+use mathlib.Core.Path.{◌≡◌}
 use Prim.Native.Nat.{◌+◌, ◌-◌, ◌*◌}
-use lib.ListN.{length, take, length-set}
+use lib.ListN.{length, take}
 use Rattle.paper.specs.Walks.{visit}
 use Rattle.depthfirst.specs.Inputs.{inputs_of}
-use Rattle.depthfirst.proofs.Small.{opened_marks, opened_stack, opened_places, closed_marks, closed_order}
-use Rattle.depthfirst.proofs.Going.{Going, seen_before, going_start, going_end}
-use Rattle.depthfirst.proofs.Turns.{top_room, top_inside, name_inside, listed, leave_turn, place_inside, input_inside, ring_stands, ring_turn, open_room, open_turn}
+use Rattle.depthfirst.proofs.Going.{Going}
 use Rattle.depthfirst.proofs.walk_on.Given as goal
 
 abbrev pub invariant-loop-depth : goal.invariant-loop-depth

@@ -2,7 +2,6 @@
 use lib.ListN.{length-set}
 use Rattle.digits.specs.Digits.{places}
 use Rattle.digits.proofs.Steps.{zeros, place_number}
-use borrow.Author.Rules.{rules}
 use Rattle.digits.proofs.place.Goals as goal
 
 pub returns : goal.returns

@@ -1,5 +1,4 @@
 -- `equations::import` meets its contract. Assumes nothing.
-use borrow.Author.Rules.{rules}
 use native.Mathlib.Omega.{arith}
 use mathlib.Core.Path.{refl, sym, ◌∙◌}
 use Prim.Native.Nat.{◌+◌}
@@ -12,7 +11,7 @@ use Rattle.equations.proofs.Zeros.{heads_part, next_part, names_part, lent_ready
 use Rattle.equations.proofs.import.Goals as goal
 
 pub returns-then-not-long_enough : goal.returns-then-not-long_enough
-returns-then-not-long_enough c = short (says_false c.long_enough.result (not-true c.long_enough.result c.if-not-long_enough.true-raw) c.long_enough.ensures) c.refused.ensures refl
+returns-then-not-long_enough c = rw c.from.ensures (short (says_false c.long_enough.result (not-true c.long_enough.result c.if-not-long_enough.true-raw) c.long_enough.ensures) (record { is = refl; nowhere = refl; at = refl; round = refl; tells = refl }) refl)
 
 pub overflow_add-n : goal.overflow_add-n
 overflow_add-n c = omega (arith, (says_true c.long_enough.result (not-false c.long_enough.result c.if-not-long_enough.false-raw) c.long_enough.ensures).small)
@@ -38,7 +37,7 @@ slice_bounds-judged-end-6 c = sym (length-take-le _ _ (names_part (says_true c.l
 pub judged-a-requires : goal.judged-a-requires
 judged-a-requires c =
     record {
-      ready = lent_ready (says_true c.long_enough.result (not-false c.long_enough.result c.if-not-long_enough.false-raw) c.long_enough.ensures) refl c.clear.ensures c.clear-2.ensures;
+      ready = lent_ready (says_true c.long_enough.result (not-false c.long_enough.result c.if-not-long_enough.false-raw) c.long_enough.ensures) refl (c.fill.ensures.after (λ y e. e)) (c.fill-2.ensures.after (λ y e. e));
       cut = lent_cut (says_true c.long_enough.result (not-false c.long_enough.result c.if-not-long_enough.false-raw) c.long_enough.ensures) refl;
     }
 
@@ -70,10 +69,10 @@ pub shape_of-order : goal.shape_of-order
 shape_of-order c = c.clear_work.auto.order ∙ c.judged-a.auto.order
 
 pub shape_of-ring : goal.shape_of-ring
-shape_of-ring c = c.judged-a.auto.ring ∙ c.clear.auto.work
+shape_of-ring c = c.judged-a.auto.ring ∙ c.fill.auto.self
 
 pub shape_of-shown : goal.shape_of-shown
-shape_of-shown c = c.judged-a.auto.shown ∙ c.clear-2.auto.work
+shape_of-shown c = c.judged-a.auto.shown ∙ c.fill-2.auto.self
 
 pub returns : goal.returns
-returns c = imported (says_true c.long_enough.result (not-false c.long_enough.result c.if-not-long_enough.false-raw) c.long_enough.ensures) c.clear.ensures c.clear-2.ensures (worked_from (c.clear_work.ensures _ _ _ _) (length_front c.args.heads.now c.judged-a.new.heads (length c.args.text.now + 1) c.judged-a.auto.heads) (length_front c.args.next.now c.judged-a.new.next (length c.args.text.now + 1) c.judged-a.auto.next) (length_front c.args.names.now c.judged-a.new.names (length c.args.text.now + 1) c.judged-a.auto.names) c.judged-a.auto.defs c.judged-a.auto.marks c.judged-a.auto.amounts c.judged-a.auto.starts c.judged-a.auto.rights c.judged-a.auto.order) c.judged-a.ensures
+returns c = imported (says_true c.long_enough.result (not-false c.long_enough.result c.if-not-long_enough.false-raw) c.long_enough.ensures) (c.fill.ensures.after (λ y e. e)) (c.fill-2.ensures.after (λ y e. e)) (worked_from (c.clear_work.ensures _ _ _ _) (length_front c.args.heads.now c.judged-a.new.heads (length c.args.text.now + 1) c.judged-a.auto.heads) (length_front c.args.next.now c.judged-a.new.next (length c.args.text.now + 1) c.judged-a.auto.next) (length_front c.args.names.now c.judged-a.new.names (length c.args.text.now + 1) c.judged-a.auto.names) c.judged-a.auto.defs c.judged-a.auto.marks c.judged-a.auto.amounts c.judged-a.auto.starts c.judged-a.auto.rights c.judged-a.auto.order) c.judged-a.ensures

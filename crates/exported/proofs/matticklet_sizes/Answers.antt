@@ -1,7 +1,5 @@
 -- `exported::matticklet_sizes` meets its contract. Assumes nothing.
-use mathlib.Core.Path.{refl}
-use borrow.Author.Rules.{rules}
 use Rattle.exported.proofs.matticklet_sizes.Goals as goal
 
 pub returns : goal.returns
-returns c = (c.sizes-r.result, (c.sizes-r.ensures, refl))
+returns c = (c.sizes-r.result, (c.sizes-r.ensures, c.plain.ensures))

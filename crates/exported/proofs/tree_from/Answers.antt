@@ -1,6 +1,5 @@
 -- `exported::tree_from` meets its contract. Assumes nothing.
 use Rattle.exported.proofs.Answers.{taken_from}
-use borrow.Author.Rules.{rules}
 use Rattle.exported.proofs.tree_from.Goals as goal
 
 pub returns : goal.returns

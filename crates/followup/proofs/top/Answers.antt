@@ -4,4 +4,4 @@ use Rattle.followup.proofs.Tops.{topped}
 use Rattle.followup.proofs.top.Goals as goal
 
 pub returns : goal.returns
-returns c = topped c.requires.priced c.requires.nodes_in_bounds c.chances_of-chances.ensures c.bracket.ensures
+returns c = topped c.requires.priced c.requires.nodes_in_bounds c.chances_of-chances.ensures c.in-Ok.ensures

@@ -1,5 +1,4 @@
 -- `forcing::force_tree`
-use borrow.Author.Rules.{rules}
 use Rattle.settings.specs.States.{states_in}
 use Rattle.forcing.proofs.Codes.{force_made}
 use Rattle.forcing.proofs.force_tree.Goals as goal

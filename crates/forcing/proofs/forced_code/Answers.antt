@@ -1,5 +1,4 @@
 -- `forcing::forced_code`
-use borrow.Author.Rules.{rules}
 use Rattle.forcing.proofs.Codes.{code_gate, code_free, code_failed, code_sound}
 use Rattle.forcing.proofs.forced_code.Goals as goal
 

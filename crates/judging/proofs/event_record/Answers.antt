@@ -1,7 +1,6 @@
 -- `judging::event_record` meets its contract.
 -- Assumes nothing.
 use Rattle.judging.proofs.Coding.{own_event, own_sited}
-use borrow.Author.Rules.{rules}
 use Rattle.judging.proofs.event_record.Goals as goal
 
 pub returns-then-sited : goal.returns-then-sited

@@ -2,7 +2,6 @@
 -- Assumes nothing.
 use borrow.Author.Tests.{lt-ltb, le-ltb}
 use Rattle.judging.proofs.Coding.{own_event_input, own_wide_input, own_gate_input}
-use borrow.Author.Rules.{rules}
 use Rattle.judging.proofs.input_record.Goals as goal
 
 pub returns-then-code-lt-WIDE_FROM : goal.returns-then-code-lt-WIDE_FROM

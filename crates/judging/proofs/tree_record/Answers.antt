@@ -2,7 +2,6 @@
 -- Assumes nothing.
 use borrow.Author.Tests.{lt-ltb, le-ltb}
 use Rattle.judging.proofs.Coding.{own_end, own_and}
-use borrow.Author.Rules.{rules}
 use Rattle.judging.proofs.tree_record.Goals as goal
 
 pub returns-then-s-lt-EVENTS : goal.returns-then-s-lt-EVENTS

@@ -1,22 +1,16 @@
 -- `lines::digits_end` meets its contract. Assumes nothing.
-use borrow.Author.Rules.{rules}
-use native.Mathlib.Omega.{arith}
-use Prim.Native.Nat.{ℕ, ◌-◌, ◌≤◌}
-use lib.ListN.{length}
-use Rattle.paper.specs.Bytes.{digit}
-use Rattle.lines.specs.Reading.{Ends}
-use Rattle.lines.proofs.Tests.{denied, granted}
-use Rattle.lines.proofs.Leads.{ends_stop, ends_end, ends_step}
+use Rattle.std.proofs.Common.{◌-◌, length, take, drop, ◌∙◌, rules, tests}
+use Rattle.std.proofs.lemmas.Iterator.{YieldsList-from_slice}
+use Rattle.std.proofs.lemmas.Iterator.Consumers.{count_from_yields_List}
+use Rattle.std.proofs.lemmas.Iterator.Search.{YieldsList-from_take_while}
+use Rattle.std.proofs.lemmas.List.Folds.{length-prefix_len}
+use Rattle.std.specs.Char.{is_ascii_digit}
+use Rattle.lines.proofs.Tests.{digit_is}
+use Rattle.lines.proofs.Leads.{ends_taken}
 use Rattle.lines.proofs.digits_end.Goals as goal
 
-pub loop-e-init : goal.loop-e-init
-loop-e-init c = ((λ r w. w), c.requires)
-
-pub returns-then-not-is_digit : goal.returns-then-not-is_digit
-returns-then-not-is_digit c = c.loop-e.invariant.0 c.loop-e.e (ends_stop c.loop-e-test.true (denied c.is_digit.ensures c.if-not-is_digit.true-raw))
-
-pub loop-e-preserved : goal.loop-e-preserved
-loop-e-preserved c = ((λ r w. c.loop-e.invariant.0 r (ends_step c.loop-e-test.true (granted c.is_digit.ensures c.if-not-is_digit.false-raw) w)), omega (arith, c.loop-e-test.true))
-
 pub returns : goal.returns
-returns c = c.loop-e.invariant.0 c.loop-e.e (ends_end c.loop-e.invariant.1 c.loop-e-test.false)
+returns c =
+    let rest = take (length c.args.s.now - c.args.i) (drop c.args.i c.args.s.now) in
+    ends_taken digit_is c.args.s.now c.args.i c.count.result c.requires
+    (count_from_yields_List c.take_while.result _ c.count.ensures.ran (YieldsList-from_take_while _ is_ascii_digit (YieldsList-from_slice rest (cc)) c.take_while.ensures.closure c.take_while.ensures.done (λ x b q k. search (rules, tests))) ∙ length-prefix_len is_ascii_digit rest)

@@ -1,22 +1,16 @@
 -- `lines::line_end` meets its contract. Assumes nothing.
-use borrow.Author.Rules.{rules}
-use native.Mathlib.Omega.{arith}
-use Prim.Native.Nat.{ℕ, ◌-◌, ◌≤◌}
-use lib.ListN.{length, get_or}
-use Rattle.paper.specs.Bytes.{in_line}
-use Rattle.lines.specs.Reading.{Ends}
-use Rattle.lines.proofs.Lines.{in_line_lem, no_line}
-use Rattle.lines.proofs.Leads.{ends_stop, ends_end, ends_step}
+use Rattle.std.proofs.Common.{◌-◌, length, take, drop, ◌∙◌, rules, tests}
+use Rattle.std.proofs.Common.{not, eqb}
+use Rattle.std.proofs.lemmas.Iterator.{YieldsList-from_slice}
+use Rattle.std.proofs.lemmas.Iterator.Consumers.{count_from_yields_List}
+use Rattle.std.proofs.lemmas.Iterator.Search.{YieldsList-from_take_while}
+use Rattle.std.proofs.lemmas.List.Folds.{length-prefix_len}
+use Rattle.lines.proofs.Tests.{in_line_is}
+use Rattle.lines.proofs.Leads.{ends_taken}
 use Rattle.lines.proofs.line_end.Goals as goal
 
-pub loop-e-init : goal.loop-e-init
-loop-e-init c = ((λ r w. w), c.requires)
-
-pub returns-then-s-e-eq10 : goal.returns-then-s-e-eq10
-returns-then-s-e-eq10 c = c.loop-e.invariant.0 c.loop-e.e (ends_stop c.loop-e-test.true (no_line (get_or c.args.s.now c.loop-e.e 0) c.if-s-e-eq10.true))
-
-pub loop-e-preserved : goal.loop-e-preserved
-loop-e-preserved c = ((λ r w. c.loop-e.invariant.0 r (ends_step c.loop-e-test.true (in_line_lem (get_or c.args.s.now c.loop-e.e 0) c.if-s-e-eq10.false) w)), omega (arith, c.loop-e-test.true))
-
 pub returns : goal.returns
-returns c = c.loop-e.invariant.0 c.loop-e.e (ends_end c.loop-e.invariant.1 c.loop-e-test.false)
+returns c =
+    let rest = take (length c.args.s.now - c.args.i) (drop c.args.i c.args.s.now) in
+    ends_taken in_line_is c.args.s.now c.args.i c.count.result c.requires
+    (count_from_yields_List c.take_while.result _ c.count.ensures.ran (YieldsList-from_take_while _ (λ b. not (eqb b 10)) (YieldsList-from_slice rest (cc)) c.take_while.ensures.closure c.take_while.ensures.done (λ x b q k. search (rules, tests))) ∙ length-prefix_len (λ b. not (eqb b 10)) rest)

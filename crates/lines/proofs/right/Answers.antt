@@ -1,5 +1,4 @@
 -- `lines::right` meets its contract. Assumes nothing.
-use borrow.Author.Rules.{rules}
 use native.Mathlib.Omega.{arith}
 use mathlib.Core.Path.{sym, ◌∙◌}
 use Rattle.paper.specs.Grammar.{at_least_word}

@@ -1,68 +1,57 @@
 -- `listing::list_cuts` meets its contract. Assumes nothing.
 use mathlib.Core.Path.{refl, sym, ◌∙◌}
-use Prim.Native.Nat.{◌-◌}
+use native.Mathlib.Omega.{arith}
+use Rattle.std.proofs.Common.{Some, None}
 use mathlib.Core.List.{[]}
-use lib.ListN.{length, take}
+use lib.ListN.{take}
 use Rattle.tables.specs.Table.{den}
-use Rattle.walk.specs.Paths.{around, Carries}
+use Rattle.walk.specs.Paths.{around}
 use Rattle.walk.specs.After.{to_list}
 use Rattle.walk.proofs.Paths.{open_start}
 use Rattle.walk.proofs.Carry.{carries_none}
 use Rattle.listing.proofs.Bytes.{carries_placed}
-use Rattle.listing.proofs.Beside.{Ready, ready_start, ready_next}
-use Rattle.listing.proofs.Calls.{Run, next_of, run_start, run_long, run_inside, run_end, short_inside, run_short, run_more, run_fits, run_less}
-use borrow.Author.Rules.{rules}
-use native.Mathlib.Omega.{arith}
+use Rattle.listing.proofs.Calls.{run_start, run_long, run_inside, run_end, short_inside, run_short, run_more, run_fits, run_less}
+use Rattle.listing.proofs.Standing.{standing_start, standing_next}
 use Rattle.listing.proofs.list_cuts.Goals as goal
 
-pub slice_bounds-start-end : goal.slice_bounds-start-end
-slice_bounds-start-end c = sym c.requires.1
+pub start-next-requires : goal.start-next-requires
+start-next-requires c = (open_start _ c.requires.0 refl, c.requires.1, carries_none _ _ c.empty-set.ensures)
 
-pub start-step-requires : goal.start-step-requires
-start-step-requires c = (open_start _ c.requires.0 refl, c.requires.1, carries_none _ _ c.empty-set.ensures)
+pub loop-next-init : goal.loop-next-init
+loop-next-init c =
+    let l = to_list c.args.n (den c.args.nodes.now c.args.root) c.args.begin c.args.base in
+    (c.start-next.auto.path, (l, run_start c.args.n l c.args.base c.args.room.now, standing_start _ _ _ _ _ _ _ l c.start-next.result c.start-next.ensures refl refl (omega arith)))
 
-pub loop-step-init : goal.loop-step-init
-loop-step-init c = (run_start c.args.base c.args.room.now c.start-step.ensures.0.path (next_of c.start-step.ensures.0) c.start-step.auto.path, c.start-step.ensures.1, ready_start c.start-step.ensures.0.path c.start-step.ensures.1 c.start-step.ensures.2 refl refl (omega arith))
+pub put_next-requires : goal.put_next-requires
+put_next-requires c =
+    let f = c.loop-next.invariant.1.2.some c.in-Some.step c.in-Some.is in
+    let r = c.loop-next.invariant.1.1 in
+    (f.carries.long, omega (arith, r.within, run_long r), f.ready.between, f.ready.counted, f.ready.spelled, f.ready.many)
 
-pub put_next-w-requires : goal.put_next-w-requires
-put_next-w-requires c = (c.loop-step.invariant.1.long, omega (arith, c.loop-step.invariant.0.within, run_long c.loop-step.invariant.0), c.loop-step.invariant.2.between, c.loop-step.invariant.2.counted c.loop-step-test.true, c.loop-step.invariant.2.spelled c.loop-step-test.true, c.loop-step.invariant.2.many)
+pub returns-in_default-put_next : goal.returns-in_default-put_next
+returns-in_default-put_next c =
+    let f = c.loop-next.invariant.1.2.some c.in-Some.step c.in-Some.is in
+    run_short c.loop-next.invariant.1.1 f.first (carries_placed f.path f.carries c.loop-next.room c.loop-next.used None c.put_next.new.room c.in_default-put_next.ensures.0) c.last_set-last.ensures c.stopped.ensures
 
-pub last_set-last-requires : goal.last_set-last-requires
-last_set-last-requires c = short_inside c.loop-step.invariant.0 c.loop-step-test.true c.if-w-eq0.true (carries_placed c.loop-step.invariant.0.path c.loop-step.invariant.1 c.put_next-w.ensures.0)
+pub advance-next-requires : goal.advance-next-requires
+advance-next-requires c = let f = c.loop-next.invariant.1.2.some c.in-Some.step c.in-Some.is in (f.path, f.carries)
 
-pub shape_of-room-then-w-eq0 : goal.shape_of-room-then-w-eq0
-shape_of-room-then-w-eq0 c = c.put_next-w.auto.room ∙ run_long c.loop-step.invariant.0
+pub loop-next-smaller : goal.loop-next-smaller
+loop-next-smaller c =
+    let f = c.loop-next.invariant.1.2.some c.in-Some.step c.in-Some.is in
+    run_less c.loop-next.invariant.1.1 f.first (carries_placed f.path f.carries c.loop-next.room c.loop-next.used (Some c.in-Some-put_next.w) c.put_next.new.room c.in-Some-put_next.ensures.0)
 
-pub returns-then-w-eq0 : goal.returns-then-w-eq0
-returns-then-w-eq0 c = run_short c.loop-step.invariant.0 c.loop-step-test.true c.if-w-eq0.true (carries_placed c.loop-step.invariant.0.path c.loop-step.invariant.1 c.put_next-w.ensures.0) c.last_set-last.ensures c.stopped.ensures
-
-pub overflow_add-used : goal.overflow_add-used
-overflow_add-used c = omega (arith, run_fits c.loop-step.invariant.0 c.loop-step-test.true (omega arith) (carries_placed c.loop-step.invariant.0.path c.loop-step.invariant.1 c.put_next-w.ensures.0), c.well_formed)
-
-pub overflow_add-k : goal.overflow_add-k
-overflow_add-k c = omega (arith, c.loop-step.invariant.0.count_le, c.loop-step.invariant.0.within, c.well_formed)
-
-pub slice_bounds-advance-end : goal.slice_bounds-advance-end
-slice_bounds-advance-end c = sym c.loop-step.invariant.0.P-long
-
-pub advance-step-requires : goal.advance-step-requires
-advance-step-requires c = (c.loop-step.invariant.0.path, c.loop-step.invariant.1)
-
-pub loop-step-smaller : goal.loop-step-smaller
-loop-step-smaller c = run_less c.loop-step.invariant.0 c.loop-step-test.true (omega arith) (carries_placed c.loop-step.invariant.0.path c.loop-step.invariant.1 c.put_next-w.ensures.0)
-
-pub loop-step-preserved : goal.loop-step-preserved
-loop-step-preserved c = (
-  run_more c.loop-step.invariant.0 c.loop-step-test.true (omega arith) (carries_placed c.loop-step.invariant.0.path c.loop-step.invariant.1 c.put_next-w.ensures.0) c.advance-step.ensures.0.path (next_of c.advance-step.ensures.0) (c.advance-step.auto.path ∙ c.loop-step.invariant.0.P-long),
-  c.advance-step.ensures.1,
-  ready_next c.advance-step.ensures.0.path c.advance-step.ensures.1 c.loop-step.invariant.2.between c.put_next-w.ensures.1 (c.put_next-w.ensures.2 (omega arith)) c.advance-step.ensures.2 c.loop-step.invariant.1.long,
-)
-
-pub last_set-last-requires-2 : goal.last_set-last-requires-2
-last_set-last-requires-2 c = run_inside c.loop-step.invariant.0
-
-pub shape_of-room : goal.shape_of-room
-shape_of-room c = run_long c.loop-step.invariant.0
+pub loop-next-preserved : goal.loop-next-preserved
+loop-next-preserved c =
+    let f = c.loop-next.invariant.1.2.some c.in-Some.step c.in-Some.is in
+    let w = c.in-Some-put_next.ensures in (
+      c.advance-next.auto.path ∙ c.loop-next.invariant.0,
+      (
+        around c.args.nodes.now (take c.in-Some.step.depth c.loop-next.path) [],
+        run_more c.loop-next.invariant.1.1 f.first (carries_placed f.path f.carries c.loop-next.room c.loop-next.used (Some c.in-Some-put_next.w) c.put_next.new.room w.0) f.path refl,
+        standing_next _ _ _ _ _ _ _ _ c.advance-next.result c.advance-next.ensures f.ready.between w.1 w.2 f.carries.long,
+      ),
+    )
 
 pub returns : goal.returns
-returns c = run_end c.loop-step.invariant.0 c.loop-step-test.false c.last_set-last-2.ensures c.done.ensures
+returns c = run_end c.loop-next.invariant.1.1 (c.loop-next.invariant.1.2.none c.in_default.is) c.last_set-last-2.ensures (refl, refl, refl, refl, refl, refl)

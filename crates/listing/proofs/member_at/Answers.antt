@@ -1,5 +1,4 @@
 -- `listing::member_at` meets its contract. Assumes nothing.
-use borrow.Author.Rules.{rules}
 use native.Mathlib.Omega.{arith}
 use mathlib.Core.Path.{ap₂, ◌∙◌}
 use Prim.Native.Nat.{ℕ, ◌+◌, ◌*◌}
@@ -16,7 +15,7 @@ pub bounds-room-at-2 : goal.bounds-room-at-2
 bounds-room-at-2 c = omega (arith, two_bytes c.requires.stands)
 
 pub returns-then-room-at-eq33 : goal.returns-then-room-at-eq33
-returns-then-room-at-eq33 c = λ e m. let t = told_narrow m c.if-room-at-eq33.true in (c.small-low.ensures ∙ t.0, t.1)
+returns-then-room-at-eq33 c = λ e m. let t = told_narrow m c.if-room-at-eq33.true in (c.from-low.ensures ∙ t.0, t.1)
 
 pub overflow_add-at-2 : goal.overflow_add-at-2
 overflow_add-at-2 c = omega (arith, three_bytes c.requires.stands c.if-room-at-eq33.false)
@@ -24,11 +23,5 @@ overflow_add-at-2 c = omega (arith, three_bytes c.requires.stands c.if-room-at-e
 pub bounds-room-at-3 : goal.bounds-room-at-3
 bounds-room-at-3 c = three_bytes c.requires.stands c.if-room-at-eq33.false
 
-pub overflow_mul-result : goal.overflow_mul-result
-overflow_mul-result c = omega (arith, c.small-high.ensures, c.type_inv.room (c.args.at + 2))
-
-pub overflow_add-result : goal.overflow_add-result
-overflow_add-result c = omega (arith, c.small-high.ensures, c.type_inv.room (c.args.at + 2), c.small-low.ensures, c.type_inv.room (c.args.at + 1))
-
 pub returns : goal.returns
-returns c = λ e m. let t = told_wide m c.if-room-at-eq33.false in (ap₂ (λ (x y : ℕ). x + 256 * y) c.small-low.ensures c.small-high.ensures ∙ t.0, t.1)
+returns c = λ e m. let t = told_wide m c.if-room-at-eq33.false in (ap₂ (λ (x y : ℕ). x + 256 * y) c.from-low.ensures c.from-high.ensures ∙ t.0, t.1)

@@ -1,13 +1,8 @@
 -- `listing::read_back` meets its contract. Assumes nothing.
-use borrow.Author.Rules.{rules}
 use native.Mathlib.Omega.{arith}
-use mathlib.Core.Path.{◌≡◌, sym, ap, ◌∙◌}
-use mathlib.Core.List.{List}
-use Prim.Native.Nat.{ℕ, ◌-◌}
+use mathlib.Core.Path.{sym, ap, ◌∙◌}
 use lib.ListN.{length}
-use Rattle.sets.specs.Words.{words}
-use Rattle.listing.specs.Bytes.{Stand}
-use Rattle.listing.proofs.ReadBack.{Reading, read_start, read_member, read_small, read_on, read_inside, read_more, read_end}
+use Rattle.listing.proofs.ReadBack.{read_start, read_member, read_small, read_on, read_inside, read_more, read_end}
 use Rattle.listing.proofs.read_back.Goals as goal
 
 pub loop-at-init : goal.loop-at-init
@@ -15,9 +10,6 @@ loop-at-init c = (ap length c.empty-out.ensures, λ es s. read_start c.empty-out
 
 pub member_at-m-requires : goal.member_at-m-requires
 member_at-m-requires c = read_member (c.loop-at.invariant.1 c.requires.events c.requires.stand) c.loop-at-test.true
-
-pub slice_bounds-add-end : goal.slice_bounds-add-end
-slice_bounds-add-end c = sym c.loop-at.invariant.0
 
 pub add-requires : goal.add-requires
 add-requires c = omega (arith, c.loop-at.invariant.0, read_small (c.loop-at.invariant.1 c.requires.events c.requires.stand) c.loop-at-test.true c.member_at-m.ensures)

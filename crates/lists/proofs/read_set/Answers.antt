@@ -1,6 +1,5 @@
 -- `lists::read_set` meets its contract. Assumes nothing.
 use mathlib.Core.Path.{sym, ap, ◌∙◌}
-use Prim.Native.Nat.{◌-◌}
 use lib.ListN.{length}
 use Rattle.lists.proofs.read_set.Goals as goal
 

@@ -1,6 +1,5 @@
 -- `lists::read_table` meets its contract. Assumes nothing.
 use mathlib.Core.Path.{refl, ◌∙◌}
-use Prim.Native.Nat.{◌-◌}
 use Rattle.lists.proofs.read_table.Goals as goal
 
 pub loop-i-init : goal.loop-i-init

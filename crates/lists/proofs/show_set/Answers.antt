@@ -1,6 +1,5 @@
 -- `lists::show_set` meets its contract. Assumes nothing.
 use native.Mathlib.Omega.{arith}
-use Prim.Native.Nat.{◌-◌}
 use Rattle.sets.proofs.Words.{lowest_on}
 use Rattle.lists.proofs.show_set.Goals as goal
 

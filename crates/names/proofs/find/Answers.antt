@@ -1,9 +1,6 @@
 -- `names::find` meets its contract. Assumes nothing.
-use borrow.Author.Rules.{rules}
 use native.Mathlib.Omega.{arith}
-use lib.ListN.{length}
-use Rattle.lines.specs.Reading.{name_at}
-use Rattle.names.proofs.Interning.{Seek, seek_start, seek_miss, turn_room, turn_less, turn_inside, turn_hit, turn_next}
+use Rattle.names.proofs.Interning.{seek_start, seek_miss, turn_room, turn_less, turn_inside, turn_hit, turn_next}
 use Rattle.names.proofs.find.Goals as goal
 
 pub bounds-heads-h : goal.bounds-heads-h

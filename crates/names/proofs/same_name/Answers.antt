@@ -1,5 +1,4 @@
 -- `names::same_name` meets its contract. Assumes nothing.
-use borrow.Author.Rules.{rules}
 use native.Mathlib.Omega.{arith}
 use mathlib.Core.Path.{ap, ◌∙◌}
 use Rattle.paper.specs.Bytes.{same}

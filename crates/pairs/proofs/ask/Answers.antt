@@ -1,6 +1,5 @@
 -- `pairs::ask`
 use Rattle.pairs.proofs.Questions.{ask_same, ask_decides, ask_passes, ask_memo}
-use borrow.Author.Rules.{rules}
 use Rattle.pairs.proofs.ask.Goals as goal
 
 pub returns-then-f-g : goal.returns-then-f-g

@@ -1,6 +1,5 @@
 -- `pairs::take_apart`
 use Rattle.pairs.proofs.Apart.{apart_first, apart_second, apart_both}
-use borrow.Author.Rules.{rules}
 use Rattle.pairs.proofs.take_apart.Goals as goal
 
 pub returns-then-a-b : goal.returns-then-a-b

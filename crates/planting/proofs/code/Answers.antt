@@ -1,5 +1,4 @@
 -- `planting::code` meets its contract. Assumes nothing.
-use borrow.Author.Rules.{rules}
 use Rattle.planting.proofs.Putting.{code_event, code_gate}
 use Rattle.planting.proofs.code.Goals as goal
 

@@ -1,6 +1,5 @@
 -- `planting::distinct_inputs` meets its contract. Assumes nothing.
 use borrow.Author.Rules.{rules}
-use native.Mathlib.Omega.{arith}
 use Rattle.records.specs.Memory.{pad}
 use Rattle.planting.proofs.Sorting.{sort_putable, sort_fits, sort_long, sort_few, sort_told, sort_many}
 use Rattle.planting.proofs.distinct_inputs.Goals as goal

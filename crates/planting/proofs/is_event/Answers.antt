@@ -1,5 +1,4 @@
 -- `planting::is_event` meets its contract. Assumes nothing.
-use borrow.Author.Rules.{rules}
 use Rattle.planting.proofs.Orders.{event_told}
 use Rattle.planting.proofs.is_event.Goals as goal
 

@@ -1,6 +1,5 @@
 -- `reading::lines` meets its contract.
 -- Assumes nothing.
-use Prim.Native.Nat.{◌-◌}
 use Rattle.reading.proofs.lines.Goals as goal
 
 pub loop-at-init : goal.loop-at-init

@@ -2,7 +2,6 @@
 -- Assumes nothing.
 use mathlib.Core.Path.{refl}
 use Rattle.records.specs.Memory.{pad, memory}
-use borrow.Author.Rules.{rules}
 use Rattle.records.proofs.empty.Goals as goal
 
 pub returns : goal.returns

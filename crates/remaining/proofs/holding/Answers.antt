@@ -11,15 +11,15 @@ use Rattle.remaining.proofs.Answering.{beyond_low, not_beyond, unwritten_now}
 use Rattle.remaining.proofs.holding.Goals as goal
 
 pub returns-then-not-is_diagram : goal.returns-then-not-is_diagram
-returns-then-not-is_diagram c = no_diagram (says_false c.is_diagram.result (not-true c.is_diagram.result c.if-not-is_diagram.true-raw) c.is_diagram.ensures) (unwritten_now c.answered.ensures)
+returns-then-not-is_diagram c = no_diagram (says_false c.is_diagram.result (not-true c.is_diagram.result c.if-not-is_diagram.true-raw) c.is_diagram.ensures) unwritten_now
 
 pub returns-then-not-lengths_ok : goal.returns-then-not-lengths_ok
-returns-then-not-lengths_ok c = too_short (says_true c.is_diagram.result (not-false c.is_diagram.result c.if-not-is_diagram.false-raw) c.is_diagram.ensures) (says_false c.lengths_ok.result (not-true c.lengths_ok.result c.if-not-lengths_ok.true-raw) c.lengths_ok.ensures) (unwritten_now c.answered-then-not-lengths_ok.ensures)
+returns-then-not-lengths_ok c = too_short (says_true c.is_diagram.result (not-false c.is_diagram.result c.if-not-is_diagram.false-raw) c.is_diagram.ensures) (says_false c.lengths_ok.result (not-true c.lengths_ok.result c.if-not-lengths_ok.true-raw) c.lengths_ok.ensures) unwritten_now
 
 pub returns-then-lowest-lt-MOST : goal.returns-then-lowest-lt-MOST
 returns-then-lowest-lt-MOST c =
     let long : length c.args.set ≡ words = search rules in
-    beyond (says_true c.is_diagram.result (not-false c.is_diagram.result c.if-not-is_diagram.false-raw) c.is_diagram.ensures) (says_true c.lengths_ok.result (not-false c.lengths_ok.result c.if-not-lengths_ok.false-raw) c.lengths_ok.ensures) (beyond_low c.args.set c.lowest.ensures (omega (arith, long, c.if-lowest-lt-MOST.true))) (unwritten_now c.answered-then-lowest-lt-MOST.ensures)
+    beyond (says_true c.is_diagram.result (not-false c.is_diagram.result c.if-not-is_diagram.false-raw) c.is_diagram.ensures) (says_true c.lengths_ok.result (not-false c.lengths_ok.result c.if-not-lengths_ok.false-raw) c.lengths_ok.ensures) (beyond_low c.args.set c.lowest.ensures (omega (arith, long, c.if-lowest-lt-MOST.true))) unwritten_now
 
 pub sum_up-requires : goal.sum_up-requires
 sum_up-requires c = ((says_true c.is_diagram.result (not-false c.is_diagram.result c.if-not-is_diagram.false-raw) c.is_diagram.ensures), (says_true c.lengths_ok.result (not-false c.lengths_ok.result c.if-not-lengths_ok.false-raw) c.lengths_ok.ensures))

@@ -1,6 +1,5 @@
 -- `remaining::search` meets its contract. Assumes nothing.
-use borrow.Author.Rules.{rules}
-use mathlib.Core.Path.{sym, ap, refl, ◌∙◌}
+use mathlib.Core.Path.{refl}
 use native.Mathlib.Omega.{arith}
 use Rattle.sets.specs.Words.{set_of}
 use Rattle.remaining.proofs.Marking.{root_some, root_none}
@@ -17,7 +16,7 @@ pub bounds-some-root : goal.bounds-some-root
 bounds-some-root c = omega (arith, (room_root c.args.some.now c.requires.0 c.requires.1).0, c.mark_all.auto.some)
 
 pub returns-then-some-root-ne1 : goal.returns-then-some-root-ne1
-returns-then-some-root-ne1 c = searched_none c.requires.0 (root_none c.args.root c.mark_all.ensures c.if-some-root-ne1.true) c.no_cut.ensures (cleared_now c.args.some.now c.clear.ensures c.mark_all.auto.some)
+returns-then-some-root-ne1 c = searched_none c.requires.0 (root_none c.args.root c.mark_all.ensures c.if-some-root-ne1.true) (cleared_now c.args.some.now (c.fill.ensures.after (λ y h. h)) c.mark_all.auto.some)
 
 pub first_from-cut-requires : goal.first_from-cut-requires
 first_from-cut-requires c = record { diagram = c.requires.0; room = omega (arith, (room_root c.args.some.now c.requires.0 c.requires.1).0, c.mark_all.auto.some); marks = c.mark_all.ensures; some = root_some c.args.root c.mark_all.ensures c.if-some-root-ne1.false }
@@ -28,5 +27,5 @@ returns c = record {
   no_place = refl;
   long = c.first_from-cut.ensures.0;
   finds = some_missing_lem (set_of c.args.set.now) c.requires.0 (root_some c.args.root c.mark_all.ensures c.if-some-root-ne1.false) c.first_from-cut.ensures.1;
-  area = cleared_now c.args.some.now c.clear-2.ensures c.mark_all.auto.some;
+  area = cleared_now c.args.some.now (c.fill-2.ensures.after (λ y h. h)) c.mark_all.auto.some;
 }

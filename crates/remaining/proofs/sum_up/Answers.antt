@@ -1,6 +1,5 @@
 -- `remaining::sum_up` meets its contract. Assumes nothing.
-use borrow.Author.Rules.{rules}
-use mathlib.Core.Path.{◌≡◌, refl, sym, ap, ◌∙◌}
+use mathlib.Core.Path.{refl, sym}
 use native.Mathlib.Omega.{arith}
 use Rattle.remaining.proofs.Answering.{room_ways, summed_over, summed_exact, cleared_now}
 use Rattle.remaining.proofs.sum_up.Goals as goal
@@ -15,7 +14,7 @@ pub first_over-requires : goal.first_over-requires
 first_over-requires c = c.requires.0.few_events
 
 pub returns-then-first_over-events : goal.returns-then-first_over-events
-returns-then-first_over-events c = summed_over c.requires.0 c.spread_all.ensures c.first_over.ensures c.if-first_over-events.true c.answered.ensures (cleared_now c.args.below.now c.clear.ensures c.count_all.auto.below) (cleared_now c.args.ways.now c.clear-2.ensures c.spread_all.auto.ways)
+returns-then-first_over-events c = summed_over c.requires.0 c.spread_all.ensures c.first_over.ensures c.if-first_over-events.true (cleared_now c.args.below.now (c.fill.ensures.after (λ y h. h)) c.count_all.auto.below) (cleared_now c.args.ways.now (c.fill-2.ensures.after (λ y h. h)) c.spread_all.auto.ways)
 
 pub slice_bounds-write-end : goal.slice_bounds-write-end
 slice_bounds-write-end c = sym c.spread_all.ensures.long
@@ -24,4 +23,4 @@ pub write-requires : goal.write-requires
 write-requires c = (c.requires.0.few_events, omega (arith, c.spread_all.ensures.long), c.requires.1.counts)
 
 pub returns : goal.returns
-returns c = summed_exact c.requires.0 c.spread_all.ensures c.first_over.ensures c.if-first_over-events.false c.answered-2.ensures c.write.ensures (cleared_now c.args.below.now c.clear.ensures c.count_all.auto.below) (cleared_now c.args.ways.now c.clear-2.ensures c.spread_all.auto.ways)
+returns c = summed_exact c.requires.0 c.spread_all.ensures c.first_over.ensures c.if-first_over-events.false c.write.ensures (cleared_now c.args.below.now (c.fill.ensures.after (λ y h. h)) c.count_all.auto.below) (cleared_now c.args.ways.now (c.fill-2.ensures.after (λ y h. h)) c.spread_all.auto.ways)

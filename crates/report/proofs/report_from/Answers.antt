@@ -4,7 +4,6 @@ use Prim.Native.Nat.{ℕ}
 use native.Mathlib.Omega.{arith}
 use lib.ListN.{replicate}
 use Rattle.walk.proofs.Paths.{rooted}
-use Rattle.report.proofs.Answers.{named_listing}
 use borrow.Author.Rules.{rules}
 use Rattle.report.proofs.report_from.Goals as goal
 
@@ -15,4 +14,4 @@ pub report_cuts-l-requires : goal.report_cuts-l-requires
 report_cuts-l-requires c = (c.requires.0, c.requires.1, c.weigh.ensures, refl, c.empty-set.ensures)
 
 pub returns : goal.returns
-returns c = (named_listing _ _ _ _ _ c.named.ensures c.report_cuts-l.ensures, record { few = c.clear.ensures ∙ ap (λ (k : ℕ). replicate k 0) c.weigh.auto.few; picks = c.clear-2.ensures ∙ ap (λ (k : ℕ). replicate k 0) c.weigh.auto.picks }, c.named.ensures.told, c.named.ensures.untold)
+returns c = (c.report_cuts-l.ensures, record { few = search rules; picks = search rules })

@@ -1,7 +1,6 @@
 -- `report::start_of` meets its contract. Assumes nothing.
 use mathlib.Core.Path.{refl, sym, ◌∙◌}
 use mathlib.Core.Bool.{true≢false, false≢true}
-use borrow.Author.Rules.{rules}
 use Rattle.report.proofs.start_of.Goals as goal
 
 pub returns-then-begin : goal.returns-then-begin

@@ -1,15 +1,14 @@
 -- `review::advance` meets its contract. Assumes nothing.
 use Rattle.walk.proofs.Members.{path_count}
 use Rattle.walk.proofs.Follow.{follows}
-use Rattle.review.proofs.Kept.{promising_self, landed_from}
-use borrow.Author.Rules.{rules}
+use Rattle.review.proofs.Kept.{landed_from}
 use Rattle.review.proofs.advance.Goals as goal
 
-pub climb-p-requires : goal.climb-p-requires
-climb-p-requires c = c.requires
-
-pub land-m-requires : goal.land-m-requires
-land-m-requires c = (promising_self c.climb-p.ensures.0, c.climb-p.ensures.1, c.climb-p.ensures.2, c.requires.2)
+pub descend-requires : goal.descend-requires
+descend-requires c = let u = c.in_ok-p.ensures in (u.0.path, u.0.hope, u.1, u.2, c.requires.2)
 
 pub returns : goal.returns
-returns c = (landed_from c.climb-p.ensures.0 c.land-m.ensures.0, c.land-m.ensures.1, follows c.climb-p.ensures.3 (path_count c.climb-p.ensures.0.path c.climb-p.ensures.1 c.climb-p.ensures.2.below) c.land-m.ensures.2 c.land-m.ensures.3)
+returns c =
+    let u = c.in_ok-p.ensures in
+    let d = c.descend.ensures in
+    (landed_from u.0 d.0, d.1, follows u.3 (path_count u.0.path u.1 u.2.below) d.2 d.3 d.4)

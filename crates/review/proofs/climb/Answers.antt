@@ -1,18 +1,12 @@
 -- `review::climb` meets its contract. Assumes nothing.
-use mathlib.Core.List.{[]}
-use mathlib.Core.Path.{refl}
 use Prim.Native.Nat.{◌-◌}
-use lib.ListN.{take}
 use native.Mathlib.Omega.{arith}
-use Rattle.sets.specs.Words.{set_of}
 use Rattle.tables.proofs.Flags.{says_true, says_false}
-use Rattle.walk.specs.Paths.{around, Carries}
 use Rattle.walk.proofs.Paths.{fits_entry}
-use Rattle.walk.proofs.Carry.{carries_zero, carries_holds, carries_pop}
-use Rattle.walk.proofs.Follow.{Trimmed, trim_start, trim_pop, parts_none, parts_pop, shorter_none, shorter_pop}
+use Rattle.walk.proofs.Carry.{carries_holds, carries_pop}
+use Rattle.walk.proofs.Follow.{trim_start, trim_pop, parts_pop, shorter_pop}
 use Rattle.review.specs.Hopes.{worth}
-use Rattle.review.proofs.Kept.{Rising, rising_start, rising_open, rising_found, rising_more, rising_end}
-use borrow.Author.Rules.{rules}
+use Rattle.review.proofs.Kept.{rising_start, rising_open, rising_found, rising_more, rising_end}
 use Rattle.review.proofs.climb.Goals as goal
 
 pub loop-d-init : goal.loop-d-init
@@ -21,26 +15,23 @@ loop-d-init c = (rising_start (worth c.args.edition c.args.chances.now c.args.n)
 pub bounds-path-d : goal.bounds-path-d
 bounds-path-d c = omega (arith, c.loop-d.invariant.0.path.deep)
 
-pub event_of-e-requires : goal.event_of-e-requires
-event_of-e-requires c = let f = fits_entry c.loop-d.invariant.0.path (c.loop-d.d - 1) (omega arith) c.wide-i.ensures in (f.two, f.inside)
+pub event_of-low-requires : goal.event_of-low-requires
+event_of-low-requires c = let f = fits_entry c.loop-d.invariant.0.path (c.loop-d.d - 1) (omega arith) c.wide-i.ensures in (f.two, f.inside)
 
 pub remove-requires : goal.remove-requires
-remove-requires c = carries_holds c.loop-d.invariant.0.path c.loop-d.invariant.1 c.loop-d-test.true c.wide-i.ensures c.event_of-e.ensures
+remove-requires c = carries_holds c.loop-d.invariant.0.path c.loop-d.invariant.1 c.loop-d-test.true c.wide-i.ensures c.event_of-low.ensures
 
-pub sound_of-b-requires : goal.sound_of-b-requires
-sound_of-b-requires c = let f = fits_entry c.loop-d.invariant.0.path (c.loop-d.d - 1) (omega arith) c.wide-i.ensures in (f.two, f.inside)
+pub sound_of-node-requires : goal.sound_of-node-requires
+sound_of-node-requires c = let f = fits_entry c.loop-d.invariant.0.path (c.loop-d.d - 1) (omega arith) c.wide-i.ensures in (f.two, f.inside)
 
 pub hope-requires : goal.hope-requires
-hope-requires c = (rising_open c.loop-d.invariant.0 c.loop-d-test.true c.wide-i.ensures c.sound_of-b.ensures, c.requires.2)
+hope-requires c = (rising_open c.loop-d.invariant.0 c.loop-d-test.true c.wide-i.ensures c.sound_of-node.ensures, c.requires.2)
 
 pub returns-then-hope : goal.returns-then-hope
-returns-then-hope c = (rising_found c.loop-d.invariant.0 c.loop-d-test.true c.wide-i.ensures c.sound_of-b.ensures (says_true c.hope.result c.if-hope.true c.hope.ensures), carries_pop c.loop-d.invariant.0.path c.loop-d.invariant.1 c.loop-d-test.true c.wide-i.ensures c.event_of-e.ensures c.remove.auto.ws c.remove.ensures, parts_pop c.loop-d.invariant.0.path c.loop-d.invariant.1 c.loop-d-test.true c.wide-i.ensures c.event_of-e.ensures c.loop-d.invariant.2 c.remove.ensures c.sound_of-b.ensures, shorter_pop c.loop-d.invariant.0.path c.loop-d.invariant.1 c.loop-d-test.true c.wide-i.ensures c.event_of-e.ensures c.loop-d.invariant.2 c.remove.ensures c.sound_of-b.ensures)
-
-pub loop-d-smaller : goal.loop-d-smaller
-loop-d-smaller c = omega arith
+returns-then-hope c = (rising_found c.loop-d.invariant.0 c.loop-d-test.true c.wide-i.ensures c.sound_of-node.ensures (says_true c.hope.result c.if-hope.true c.hope.ensures), carries_pop c.loop-d.invariant.0.path c.loop-d.invariant.1 c.loop-d-test.true c.wide-i.ensures c.event_of-low.ensures c.remove.auto.ws c.remove.ensures, parts_pop c.loop-d.invariant.0.path c.loop-d.invariant.1 c.loop-d-test.true c.wide-i.ensures c.event_of-low.ensures c.loop-d.invariant.2 c.remove.ensures c.sound_of-node.ensures, shorter_pop c.loop-d.invariant.0.path c.loop-d.invariant.1 c.loop-d-test.true c.wide-i.ensures c.event_of-low.ensures c.loop-d.invariant.2 c.remove.ensures c.sound_of-node.ensures)
 
 pub loop-d-preserved : goal.loop-d-preserved
-loop-d-preserved c = (rising_more c.loop-d.invariant.0 c.loop-d-test.true c.wide-i.ensures c.sound_of-b.ensures (says_false c.hope.result c.if-hope.false c.hope.ensures), carries_pop c.loop-d.invariant.0.path c.loop-d.invariant.1 c.loop-d-test.true c.wide-i.ensures c.event_of-e.ensures c.remove.auto.ws c.remove.ensures, trim_pop c.loop-d.invariant.0.path c.loop-d.invariant.1 c.loop-d-test.true c.wide-i.ensures c.event_of-e.ensures c.loop-d.invariant.2 c.remove.ensures)
+loop-d-preserved c = (rising_more c.loop-d.invariant.0 c.loop-d-test.true c.wide-i.ensures c.sound_of-node.ensures (says_false c.hope.result c.if-hope.false c.hope.ensures), carries_pop c.loop-d.invariant.0.path c.loop-d.invariant.1 c.loop-d-test.true c.wide-i.ensures c.event_of-low.ensures c.remove.auto.ws c.remove.ensures, trim_pop c.loop-d.invariant.0.path c.loop-d.invariant.1 c.loop-d-test.true c.wide-i.ensures c.event_of-low.ensures c.loop-d.invariant.2 c.remove.ensures)
 
 pub returns : goal.returns
-returns c = (rising_end c.loop-d.invariant.0 (omega arith), carries_zero c.loop-d.invariant.0.path c.loop-d.invariant.1 (omega arith) refl, parts_none c.loop-d.invariant.0.path c.loop-d.invariant.1 0 (omega arith), shorter_none _ _)
+returns c = rising_end c.loop-d.invariant.0 (omega arith) c.loop-d.invariant.1

@@ -1,21 +1,13 @@
 -- `review::descend` meets its contract. Assumes nothing.
-use mathlib.Core.Path.{◌≡◌, refl}
-use Prim.Native.Nat.{◌≤◌}
-use lib.ListN.{length, take, length-set}
+use mathlib.Core.Path.{refl}
+use lib.ListN.{length-set}
 use native.Mathlib.Omega.{arith}
-use Rattle.paper.specs.Cuts.{sets_of}
-use Rattle.sets.specs.Words.{set_of}
-use Rattle.tables.specs.Table.{event_of, den}
 use Rattle.tables.proofs.Flags.{says_true, says_false}
-use Rattle.walk.specs.Paths.{around, Carries}
-use Rattle.walk.specs.Follows.{Longer}
 use Rattle.walk.proofs.Paths.{room_for, fits_at}
 use Rattle.walk.proofs.Carry.{carries_room, carries_push}
 use Rattle.walk.proofs.Follow.{longer_start, longer_push, longer_up}
-use Rattle.review.specs.Hopes.{worth, events_left}
-use Rattle.review.proofs.Kept.{Sinking, sinking_start, sinking_open, sinking_failed, sinking_sound, sinking_end, untouched, carries_same, sound_up}
+use Rattle.review.proofs.Kept.{sinking_start, sinking_open, sinking_failed, sinking_sound, sinking_end, untouched, carries_same, sound_up}
 use Rattle.review.proofs.Turns.{left_failed, left_sound}
-use borrow.Author.Rules.{rules}
 use Rattle.review.proofs.descend.Goals as goal
 
 pub loop-i-init : goal.loop-i-init
@@ -61,4 +53,4 @@ pub shape_of-path : goal.shape_of-path
 shape_of-path c = c.loop-i.invariant.1
 
 pub returns : goal.returns
-returns c = (sinking_end c.loop-i.invariant.0 c.loop-i-test.false, c.loop-i.invariant.2, c.loop-i.invariant.3)
+returns c = (sinking_end c.loop-i.invariant.0 c.loop-i-test.false, c.loop-i.invariant.2, c.loop-i.invariant.3, refl, refl)

@@ -1,21 +1,14 @@
 -- `review::descend` meets its contract. Assumes nothing.
-use mathlib.Core.Path.{◌≡◌, refl}
+use mathlib.Core.Path.{◌≡◌}
 use Prim.Native.Nat.{◌≤◌}
-use lib.ListN.{length, take, length-set}
-use native.Mathlib.Omega.{arith}
+use lib.ListN.{length, take}
 use Rattle.paper.specs.Cuts.{sets_of}
 use Rattle.sets.specs.Words.{set_of}
 use Rattle.tables.specs.Table.{event_of, den}
-use Rattle.tables.proofs.Flags.{says_true, says_false}
 use Rattle.walk.specs.Paths.{around, Carries}
 use Rattle.walk.specs.Follows.{Longer}
-use Rattle.walk.proofs.Paths.{room_for, fits_at}
-use Rattle.walk.proofs.Carry.{carries_room, carries_push}
-use Rattle.walk.proofs.Follow.{longer_start, longer_push, longer_up}
 use Rattle.review.specs.Hopes.{worth, events_left}
-use Rattle.review.proofs.Kept.{Sinking, sinking_start, sinking_open, sinking_failed, sinking_sound, sinking_end, untouched, carries_same, sound_up}
-use Rattle.review.proofs.Turns.{left_failed, left_sound}
-use borrow.Author.Rules.{rules}
+use Rattle.review.proofs.Kept.{Sinking}
 use Rattle.review.proofs.descend.Given as goal
 
 abbrev pub invariant-loop-i : goal.invariant-loop-i

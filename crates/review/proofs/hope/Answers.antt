@@ -5,7 +5,6 @@ use Rattle.walk.proofs.Paths.{open_leaf}
 use Rattle.review.proofs.Weights.{picks_fewer, few_small}
 use Rattle.review.proofs.Turns.{depth_few}
 use Rattle.review.proofs.Hopes.{hope_short, hope_long, hope_exact}
-use borrow.Author.Rules.{rules}
 use Rattle.review.proofs.hope.Goals as goal
 
 pub few_in-requires : goal.few_in-requires

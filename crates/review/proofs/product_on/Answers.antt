@@ -1,10 +1,8 @@
 -- `review::product_on` meets its contract. Assumes nothing.
-use Prim.Native.Nat.{◌-◌}
 use mathlib.Core.Path.{refl}
 use native.Mathlib.Omega.{arith}
-use Rattle.review.proofs.Hopes.{Multiplied, multiplied_start, multiplied_more, multiplied_end, entry_low}
+use Rattle.review.proofs.Hopes.{multiplied_start, multiplied_more, multiplied_end, entry_low}
 use Rattle.review.proofs.Turns.{depth_few}
-use borrow.Author.Rules.{rules}
 use Rattle.review.proofs.product_on.Goals as goal
 
 pub loop-k-init : goal.loop-k-init
@@ -29,16 +27,10 @@ pub bounds-chances-e : goal.bounds-chances-e
 bounds-chances-e c = let q = entry_low c.requires.0 c.loop-k.k c.loop-k-test.true c.wide-i.ensures c.event_of-e.ensures in omega (arith, q.2, c.requires.1)
 
 pub scale-requires : goal.scale-requires
-scale-requires c = let q = entry_low c.requires.0 c.loop-k.k c.loop-k-test.true c.wide-i.ensures c.event_of-e.ensures in let h = c.requires.2.each c.event_of-e.result q.2 in (c.loop-k.invariant.digits, omega (arith, c.loop-k.invariant.long, c.requires.5, depth_few c.requires.0, c.loop-k-test.true), omega (arith, c.wide.ensures))
-
-pub overflow_add-k-in-loop-k : goal.overflow_add-k-in-loop-k
-overflow_add-k-in-loop-k c = omega (arith, depth_few c.requires.0, c.requires.0.lent.few_events, c.loop-k-test.true)
-
-pub loop-k-smaller : goal.loop-k-smaller
-loop-k-smaller c = omega (arith, c.loop-k-test.true)
+scale-requires c = let q = entry_low c.requires.0 c.loop-k.k c.loop-k-test.true c.wide-i.ensures c.event_of-e.ensures in let h = c.requires.2.each c.event_of-e.result q.2 in (c.loop-k.invariant.digits, omega (arith, c.loop-k.invariant.long, c.requires.5, depth_few c.requires.0, c.loop-k-test.true), omega (arith, c.from.ensures))
 
 pub loop-k-preserved : goal.loop-k-preserved
-loop-k-preserved c = multiplied_more c.loop-k.invariant c.loop-k-test.true c.requires.0.deep c.wide-i.ensures c.event_of-e.ensures c.wide.ensures c.scale.ensures.0 c.scale.ensures.1 c.scale.auto.ds
+loop-k-preserved c = multiplied_more c.loop-k.invariant c.loop-k-test.true c.requires.0.deep c.wide-i.ensures c.event_of-e.ensures c.from.ensures c.scale.ensures.0 c.scale.ensures.1 c.scale.auto.ds
 
 pub shape_of-ds : goal.shape_of-ds
 shape_of-ds c = c.loop-k.invariant.long

@@ -1,5 +1,4 @@
 -- `scanning::scan` meets its contract. Assumes nothing.
-use borrow.Author.Rules.{rules}
 use native.Mathlib.Omega.{arith}
 use Rattle.scanning.proofs.Giving.{scan_twice, scan_done}
 use Rattle.scanning.proofs.scan.Goals as goal
@@ -14,22 +13,19 @@ define-twice-requires c =
       count_in_bounds = omega (arith, c.gather-count.ensures.low, c.requires.text_in_bounds.0);
     }
 
-pub give-g-requires : goal.give-g-requires
-give-g-requires c =
+pub give-requires : goal.give-requires
+give-requires c =
     record {
       gathered = c.gather-count.ensures;
       places = c.define-twice.ensures.places;
       count_in_bounds = (omega (arith, c.gather-count.ensures.low, c.requires.text_in_bounds.1), omega (arith, c.gather-count.ensures.low, c.requires.text_in_bounds.2));
     }
 
-pub overflow_sub-result : goal.overflow_sub-result
-overflow_sub-result c = omega (arith, c.if-twice-gt0.true)
+pub returns-in-Err : goal.returns-in-Err
+returns-in-Err c = rw c.in-Err.is at c.give.ensures
 
-pub returns-then-twice-gt0 : goal.returns-then-twice-gt0
-returns-then-twice-gt0 c = scan_twice c.gather-count.ensures c.define-twice.ensures (rw c.in-Given.is at c.give-g.ensures) c.if-twice-gt0.true
+pub returns-in-Some : goal.returns-in-Some
+returns-in-Some c = scan_twice c.gather-count.ensures c.define-twice.ensures (rw c.in_default.is at c.give.ensures) c.in-Some.is
 
-pub returns-in-Wrong : goal.returns-in-Wrong
-returns-in-Wrong c = rw c.in-Wrong.is at c.give-g.ensures
-
-pub returns-else-twice-gt0 : goal.returns-else-twice-gt0
-returns-else-twice-gt0 c = scan_done c.gather-count.ensures c.define-twice.ensures (rw c.in-Given.is at c.give-g.ensures) c.if-twice-gt0.false
+pub returns-in-None : goal.returns-in-None
+returns-in-None c = scan_done c.gather-count.ensures c.define-twice.ensures (rw c.in_default.is at c.give.ensures) c.in-None.is

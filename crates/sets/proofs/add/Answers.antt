@@ -1,5 +1,4 @@
 -- `sets::add` meets its contract. Assumes nothing.
-use borrow.Author.Rules.{rules}
 use Rattle.sets.proofs.Words.{put_in}
 use Rattle.sets.proofs.add.Goals as goal
 

@@ -4,8 +4,5 @@ use lib.Count.{trailing_le}
 use Rattle.sets.proofs.Bit.{trail}
 use Rattle.sets.proofs.low_bit.Goals as goal
 
-pub overflow_cast-result : goal.overflow_cast-result
-overflow_cast-result c = omega (arith, trailing_le 64 c.args.w)
-
 pub returns : goal.returns
 returns c = trail 64 c.args.w c.requires c.ranges.w.fits

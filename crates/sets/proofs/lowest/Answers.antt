@@ -1,7 +1,6 @@
 -- `sets::lowest` meets its contract. Assumes nothing.
 use Prim.Native.Nat.{◌/◌}
 use native.Mathlib.Omega.{arith}
-use borrow.Author.Rules.{rules}
 use Rattle.sets.proofs.Words.{low_end, found_mid, found_next}
 use Rattle.sets.proofs.lowest.Goals as goal
 

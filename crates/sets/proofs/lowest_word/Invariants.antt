@@ -1,15 +1,9 @@
 -- `sets::lowest_word` meets its contract: before word k no event from `from` words on is a member. Assumes nothing.
-use Prim.Native.Nat.{ℕ, ◌*◌, ◌-◌, ◌≤◌, ◌<◌}
+use Prim.Native.Nat.{ℕ, ◌*◌, ◌≤◌, ◌<◌}
 use mathlib.Core.Bool.{false}
 use mathlib.Core.Path.{◌≡◌}
-use native.Mathlib.Omega.{arith}
-use lib.ListN.{length, get_or}
 use Rattle.sets.specs.Words.{set_of}
-use Rattle.sets.proofs.Words.{found_low, none_low}
 use Rattle.sets.proofs.lowest_word.Given as goal
 
 abbrev pub invariant-loop-k : goal.invariant-loop-k
-invariant-loop-k l = (l.k ≤ length l.ws) × (l.from ≤ l.k) × ((j : ℕ) → j < l.k * 64 → l.from * 64 ≤ j → set_of l.ws j ≡ false)
-
-abbrev pub decreases-loop-k : goal.decreases-loop-k
-decreases-loop-k l = length l.ws - l.k
+invariant-loop-k l = (j : ℕ) → j < l.k * 64 → l.from * 64 ≤ j → set_of l.ws j ≡ false

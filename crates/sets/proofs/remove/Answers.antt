@@ -1,5 +1,4 @@
 -- `sets::remove` meets its contract. Assumes nothing.
-use borrow.Author.Rules.{rules}
 use Rattle.sets.proofs.Words.{take_out}
 use Rattle.sets.proofs.remove.Goals as goal
 

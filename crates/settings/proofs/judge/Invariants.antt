@@ -1,9 +1,7 @@
 -- `settings::judge`
-use borrow.Author.Rules.{rules}
 use Prim.Native.Nat.{◌-◌}
-use native.Mathlib.Omega.{arith}
 use lib.ListN.{length}
-use Rattle.settings.proofs.Reading.{Judging, judging_start, judging_short, judging_fault, judging_next, judging_end, gives}
+use Rattle.settings.proofs.Reading.{Judging}
 use Rattle.settings.proofs.judge.Given as goal
 
 abbrev pub invariant-loop-at : goal.invariant-loop-at

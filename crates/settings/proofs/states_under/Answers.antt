@@ -1,9 +1,7 @@
 -- `settings::states_under`
 use mathlib.Core.Path.{refl}
-use Prim.Native.Nat.{◌-◌}
 use native.Mathlib.Omega.{arith}
-use lib.ListN.{length}
-use Rattle.settings.proofs.Reading.{Setting, setting_start, setting_fits, setting_event, setting_next, setting_end}
+use Rattle.settings.proofs.Reading.{setting_start, setting_fits, setting_event, setting_next, setting_end}
 use Rattle.settings.proofs.states_under.Goals as goal
 
 pub loop-at-init : goal.loop-at-init
@@ -16,14 +14,11 @@ take_entry-requires c =
       at_bound = setting_event c.loop-at.invariant c.loop-at-test.true c.requires.events_le_events;
     }
 
-pub overflow_add-at : goal.overflow_add-at
-overflow_add-at c = omega (arith, setting_fits c.loop-at.invariant c.loop-at-test.true)
-
-pub loop-at-smaller : goal.loop-at-smaller
-loop-at-smaller c = omega (arith, c.loop-at-test.true)
-
 pub loop-at-preserved : goal.loop-at-preserved
 loop-at-preserved c = setting_next c.loop-at.invariant c.loop-at-test.true c.requires.events_le_events c.take_entry.ensures
 
 pub returns : goal.returns
 returns c = setting_end c.loop-at.invariant c.loop-at-test.false
+
+pub returns-2 : goal.returns-2
+returns-2 c = setting_end (setting_next c.loop-at.invariant c.loop-at-test.true c.requires.events_le_events c.take_entry.ensures) (omega arith)

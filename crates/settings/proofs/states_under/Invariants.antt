@@ -1,9 +1,7 @@
 -- `settings::states_under`
-use mathlib.Core.Path.{refl}
 use Prim.Native.Nat.{◌-◌}
-use native.Mathlib.Omega.{arith}
 use lib.ListN.{length}
-use Rattle.settings.proofs.Reading.{Setting, setting_start, setting_fits, setting_event, setting_next, setting_end}
+use Rattle.settings.proofs.Reading.{Setting}
 use Rattle.settings.proofs.states_under.Given as goal
 
 abbrev pub invariant-loop-at : goal.invariant-loop-at

@@ -1,11 +1,7 @@
 -- `sidebyside::merge` meets its contract. Assumes nothing.
-use borrow.Author.Rules.{rules}
-use native.Mathlib.Omega.{arith}
 use Prim.Native.Nat.{◌+◌, ◌-◌}
 use lib.ListN.{length}
 use Rattle.sidebyside.specs.Merging.{Merging}
-use Rattle.sidebyside.proofs.Walking.{walk_inside}
-use Rattle.sidebyside.proofs.Merging.{merge_start, merge_on}
 use Rattle.sidebyside.proofs.merge.Given as goal
 
 abbrev pub invariant-loop-r : goal.invariant-loop-r

@@ -1,8 +1,6 @@
 -- `sidebyside::rest` meets its contract. Assumes nothing.
 use native.Mathlib.Omega.{arith}
-use Prim.Native.Nat.{◌-◌}
-use lib.ListN.{length}
-use Rattle.sidebyside.proofs.Walking.{walk_rises, Resting, rest_start, rest_fault, rest_left, rest_on, rest_next}
+use Rattle.sidebyside.proofs.Walking.{walk_rises, rest_start, rest_fault, rest_left, rest_on, rest_next}
 use Rattle.sidebyside.proofs.rest.Goals as goal
 
 pub loop-e-init : goal.loop-e-init

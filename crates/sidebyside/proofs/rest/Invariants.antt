@@ -1,8 +1,7 @@
 -- `sidebyside::rest` meets its contract. Assumes nothing.
-use native.Mathlib.Omega.{arith}
 use Prim.Native.Nat.{◌-◌}
 use lib.ListN.{length}
-use Rattle.sidebyside.proofs.Walking.{walk_rises, Resting, rest_start, rest_fault, rest_left, rest_on, rest_next}
+use Rattle.sidebyside.proofs.Walking.{Resting}
 use Rattle.sidebyside.proofs.rest.Given as goal
 
 abbrev pub invariant-loop-e : goal.invariant-loop-e

@@ -1,12 +1,7 @@
 -- `sizes::collect` meets its contract. Assumes nothing.
-use native.Mathlib.Omega.{arith}
-use Prim.Native.Nat.{◌+◌, ◌-◌, ◌≤◌, max}
+use Prim.Native.Nat.{◌+◌, ◌≤◌, max}
 use Rattle.sizes.specs.Reach.{Collecting}
-use Rattle.sizes.proofs.Reaching.{collecting_start, collecting_step, collecting_end}
 use Rattle.sizes.proofs.collect.Given as goal
 
 abbrev pub invariant-loop-i : goal.invariant-loop-i
 invariant-loop-i l = Collecting l.initial.reached l.reached l.many l.i × (l.i ≤ max 2 (l.root + 1))
-
-abbrev pub decreases-loop-i : goal.decreases-loop-i
-decreases-loop-i l = l.root + 1 - l.i

@@ -1,5 +1,4 @@
 -- Two stores of 1, or none. Assumes nothing.
-use borrow.Author.Rules.{rules}
 use native.Mathlib.Omega.{arith}
 use lib.ListN.{length-set}
 use Rattle.cuts.proofs.Marks.{failed_below, sound_below, spread_none, spread_both}
@@ -10,26 +9,12 @@ returns-then-marks-i-ne1 c =
     let marks = c.args.marks.now in
     spread_none marks c.if-marks-i-ne1.true
 
-pub offset_bounds-marks-f : goal.offset_bounds-marks-f
-offset_bounds-marks-f c =
-    let held = c.requires.held in
-    let two = c.requires.le_i in
-    let low-failed = failed_below held two in
-    omega (arith, c.failed_of-f.ensures, low-failed)
-
 pub bounds-marks-f : goal.bounds-marks-f
 bounds-marks-f c =
     let held = c.requires.held in
     let two = c.requires.le_i in
     let low-failed = failed_below held two in
     omega (arith, c.failed_of-f.ensures, low-failed)
-
-pub offset_bounds-marks-s : goal.offset_bounds-marks-s
-offset_bounds-marks-s c =
-    let held = c.requires.held in
-    let two = c.requires.le_i in
-    let low-sound = sound_below held two in
-    omega (arith, c.sound_of-s.ensures, low-sound)
 
 pub bounds-marks-s : goal.bounds-marks-s
 bounds-marks-s c =

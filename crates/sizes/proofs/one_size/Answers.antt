@@ -1,103 +1,46 @@
 -- `sizes::one_size` meets its contract. Assumes nothing.
-use borrow.Author.Rules.{rules}
 use native.Mathlib.Omega.{arith}
-use mathlib.Core.Path.{◌≡◌, refl, ◌∙◌}
-use Prim.Native.Nat.{◌-◌}
-use lib.ListN.{length, length-set}
-use borrow.Author.Tests.{not-true, not-false}
-use Rattle.sizes.specs.Passes.{Passing}
+use mathlib.Core.Path.{refl, ◌∙◌}
 use Rattle.sizes.proofs.Pass.{turn_two, turn_low, turn_failed, turn_sound, passing_start, passing_step, passing_over, passing_end, passed_fits, passed_over, length_two}
+use Rattle.sizes.proofs.Counts.{single_is}
 use Rattle.sizes.proofs.one_size.Goals as goal
 
-pub bounds-work-0 : goal.bounds-work-0
-bounds-work-0 c = omega (arith, c.requires.root_in_bounds.2)
-
-pub bounds-work-1 : goal.bounds-work-1
-bounds-work-1 c = simp length-set (omega (arith, c.requires.root_in_bounds.2))
-
-pub loop-p-init : goal.loop-p-init
-loop-p-init c =
-    let nodes = c.args.nodes.now in
-    let list = c.args.reached.now in
-    let work = c.args.work.now in
-    let k = c.args.k in
-    (simp length-set refl, passing_start nodes list work k c.single_of.result c.requires.root_in_bounds.2 c.single_of.ensures)
-
-pub bounds-reached-p : goal.bounds-reached-p
-bounds-reached-p c =
-    let listed = c.requires.held.1 in
-    let inside = c.loop-p-test.true in
-    omega (arith, listed.short, inside)
+pub loop-i-init : goal.loop-i-init
+loop-i-init c = passing_start _ _ _ _ _ c.requires.root_in_bounds.2 (c.from.ensures ∙ single_is c.args.k)
 
 pub failed_of-f-requires : goal.failed_of-f-requires
 failed_of-f-requires c =
     let held = c.requires.held.0 in
-    let listed = c.requires.held.1 in
-    let inside = c.loop-p-test.true in
-    let two = turn_two held listed inside refl in
-    let low = turn_low held listed inside refl in
-    (two, omega (arith, two, low, held.fits, held.within))
+    let two = turn_two held c.requires.held.1 c.loop-i-test.true refl in
+    let low = turn_low held c.requires.held.1 c.loop-i-test.true refl in
+    (two, omega (arith, held.fits, held.within))
 
 pub sound_of-s-requires : goal.sound_of-s-requires
 sound_of-s-requires c =
     let held = c.requires.held.0 in
-    let listed = c.requires.held.1 in
-    let inside = c.loop-p-test.true in
-    let two = turn_two held listed inside refl in
-    let low = turn_low held listed inside refl in
-    (two, omega (arith, two, low, held.fits, held.within))
+    let two = turn_two held c.requires.held.1 c.loop-i-test.true refl in
+    let low = turn_low held c.requires.held.1 c.loop-i-test.true refl in
+    (two, omega (arith, held.fits, held.within))
 
 pub add-requires : goal.add-requires
 add-requires c =
-    let held = c.requires.held.0 in
-    let listed = c.requires.held.1 in
-    let inside = c.loop-p-test.true in
-    let low = turn_low held listed inside refl in
-    let work = c.args.work.now in
-    let same = c.loop-p.invariant.0 ∙ length_two work 0 0 1 c.single_of.result in
-    let fbelow = turn_failed held listed inside refl c.failed_of-f.ensures c.sound_of-s.ensures in
-    let sbelow = turn_sound held listed inside refl c.failed_of-f.ensures c.sound_of-s.ensures in
-    (omega (arith, low, same, c.requires.root_in_bounds.1), omega (arith, fbelow, low, c.requires.root_in_bounds.0), omega (arith, sbelow, low, same, c.requires.root_in_bounds.1))
+    let low = turn_low c.requires.held.0 c.requires.held.1 c.loop-i-test.true refl in
+    let failed = turn_failed c.requires.held.0 c.requires.held.1 c.loop-i-test.true refl c.failed_of-f.ensures c.sound_of-s.ensures in
+    let sound = turn_sound c.requires.held.0 c.requires.held.1 c.loop-i-test.true refl c.failed_of-f.ensures c.sound_of-s.ensures in
+    let same = c.loop-i.auto.work ∙ length_two c.args.work.now 0 0 1 _ in
+    (omega (arith, c.requires.root_in_bounds.1), omega (arith, c.requires.root_in_bounds.0), omega (arith, c.requires.root_in_bounds.1))
 
-pub shape_of-work-then-not-add : goal.shape_of-work-then-not-add
-shape_of-work-then-not-add c =
-    let work = c.args.work.now in
-    let same = c.loop-p.invariant.0 ∙ length_two work 0 0 1 c.single_of.result in
-    c.add.auto.work ∙ same
+pub returns-in_err-add : goal.returns-in_err-add
+returns-in_err-add c =
+    rw c.from_residual.ensures
+    (passed_over (passing_over c.requires.held.0 c.requires.held.1 c.loop-i-test.true refl c.failed_of-f.ensures c.sound_of-s.ensures c.requires.held.2 c.loop-i.invariant c.add.ensures c.in_err-add.was))
 
-pub returns-then-not-add : goal.returns-then-not-add
-returns-then-not-add c =
-    let held = c.requires.held.0 in
-    let listed = c.requires.held.1 in
-    let inside = c.loop-p-test.true in
-    let before = c.requires.held.2 in
-    let passing = c.loop-p.invariant.1 in
-    passed_over (passing_over held listed inside refl c.failed_of-f.ensures c.sound_of-s.ensures before passing c.add.ensures (not-true c.add.result c.if-not-add.true-raw))
-
-pub loop-p-smaller : goal.loop-p-smaller
-loop-p-smaller c =
-    let inside = c.loop-p-test.true in
-    omega (arith, inside)
-
-pub loop-p-preserved : goal.loop-p-preserved
-loop-p-preserved c =
-    let held = c.requires.held.0 in
-    let listed = c.requires.held.1 in
-    let inside = c.loop-p-test.true in
-    let before = c.requires.held.2 in
-    let passing = c.loop-p.invariant.1 in
-    let low = turn_low held listed inside refl in
-    let work = c.args.work.now in
-    let same = c.loop-p.invariant.0 ∙ length_two work 0 0 1 c.single_of.result in
-    (c.add.auto.work ∙ c.loop-p.invariant.0, passing_step held listed inside refl c.failed_of-f.ensures c.sound_of-s.ensures before passing c.add.ensures (not-false c.add.result c.if-not-add.false-raw) (omega (arith, low, same, c.requires.root_in_bounds.1)))
-
-pub shape_of-work : goal.shape_of-work
-shape_of-work c =
-    let work = c.args.work.now in
-    let same = c.loop-p.invariant.0 ∙ length_two work 0 0 1 c.single_of.result in
-    same
+pub loop-i-preserved : goal.loop-i-preserved
+loop-i-preserved c =
+    let low = turn_low c.requires.held.0 c.requires.held.1 c.loop-i-test.true refl in
+    let same = c.loop-i.auto.work ∙ length_two c.args.work.now 0 0 1 _ in
+    passing_step c.requires.held.0 c.requires.held.1 c.loop-i-test.true refl c.failed_of-f.ensures c.sound_of-s.ensures c.requires.held.2 c.loop-i.invariant c.add.ensures c.in_ok-add.was
+    (omega (arith, c.requires.root_in_bounds.1))
 
 pub returns : goal.returns
-returns c =
-    let listed = c.requires.held.1 in
-    passed_fits (passing_end listed c.loop-p.invariant.1 (omega (arith, c.loop-p-test.false)))
+returns c = passed_fits (passing_end c.requires.held.1 c.loop-i.invariant (omega arith))

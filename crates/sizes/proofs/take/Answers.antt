@@ -1,5 +1,4 @@
 -- `sizes::take` meets its contract. Assumes nothing.
-use borrow.Author.Rules.{rules}
 use Rattle.sizes.proofs.Reaching.{takes_marked, takes_none}
 use Rattle.sizes.proofs.take.Goals as goal
 

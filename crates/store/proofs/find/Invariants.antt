@@ -1,8 +1,6 @@
 -- `store::find`
-use borrow.Author.Rules.{rules}
-use native.Mathlib.Omega.{arith}
 use lib.ListN.{length}
-use Rattle.store.proofs.Search.{Seek, seek_start, seek_less, seek_next, seek_hit, seek_miss}
+use Rattle.store.proofs.Search.{Seek}
 use Rattle.store.proofs.find.Given as goal
 
 abbrev pub invariant-loop-i : goal.invariant-loop-i

@@ -7,15 +7,6 @@ use Rattle.store.proofs.Slots.{scaled_fits, scaled_below}
 use borrow.Author.Rules.{rules}
 use Rattle.store.proofs.first_slot.Goals as goal
 
-pub overflow_mul-y : goal.overflow_mul-y
-overflow_mul-y c =
-    let q = scaled_fits c.mixed-x.result c.mixed.result c.mixed-x.ensures.1 (omega (arith, c.mixed.ensures.1)) in search (rules, q)
-
-pub overflow_mul-result : goal.overflow_mul-result
-overflow_mul-result c =
-    let y = c.mixed-x.result * c.mixed.result % 4294967296 in
-    let q = scaled_fits y (c.args.slots % 4294967296) (omega arith) (omega arith) in search (rules, q)
-
 pub returns : goal.returns
 unfolding first_slot
 returns c =

@@ -1,11 +1,21 @@
 -- `store::make`
-use Rattle.store.proofs.Building.{made_same, made_node}
-use borrow.Author.Rules.{rules}
+use mathlib.Core.Path.{sym, ◌∙◌}
+use Rattle.store.proofs.Building.{made_same, made_none, made_node, made_cut}
 use Rattle.store.proofs.make.Goals as goal
 
-pub returns-then-failed-sound : goal.returns-then-failed-sound
-returns-then-failed-sound c = made_same c.requires.store c.args.e c.requires.failed_bound c.requires.sound_bound c.if-failed-sound.true
+pub returns-then-failed-dropped : goal.returns-then-failed-dropped
+returns-then-failed-dropped c =
+    let r = c.requires in
+    record {
+      function = λ q. made_same r.store c.args.e r.failed_bound r.sound_bound (c.if-failed-dropped.true ∙ q);
+      family = λ q. made_none r.store c.args.e r.failed_bound r.sound_bound (c.if-failed-dropped.true ∙ q);
+    }
 
 pub returns : goal.returns
 returns c =
-    made_node c.requires.store c.args.e c.requires.failed_bound c.requires.sound_bound c.find_or_add-placed.new.nodes c.find_or_add-placed.new.heads c.find_or_add-placed.new.next c.find_or_add-placed.result c.find_or_add-placed.ensures c.as_built.ensures c.if-failed-sound.false
+    let r = c.requires in
+    let f = c.find_or_add in
+    record {
+      function = λ q. made_node r.store c.args.e r.failed_bound r.sound_bound f.new.nodes f.new.heads f.new.next f.result f.ensures (λ p. c.if-failed-dropped.false (p ∙ sym q));
+      family = λ q. made_cut r.store c.args.e r.failed_bound r.sound_bound f.new.nodes f.new.heads f.new.next f.result f.ensures (λ p. c.if-failed-dropped.false (p ∙ sym q));
+    }

@@ -2,7 +2,6 @@
 use mathlib.Core.Path.{refl}
 use Rattle.store.specs.Store.{mix}
 use Rattle.store.proofs.Slots.{mix_below}
-use borrow.Author.Rules.{rules}
 use Rattle.store.proofs.mixed.Goals as goal
 
 pub returns : goal.returns

@@ -6,10 +6,6 @@ use Rattle.store.proofs.Memory.{place_at}
 use borrow.Author.Rules.{rules}
 use Rattle.store.proofs.place.Goals as goal
 
-pub overflow_mul-s : goal.overflow_mul-s
-overflow_mul-s c =
-    let q = scaled_fits c.mixed.result (length c.args.memo.now) c.mixed.ensures.1 c.requires.few in search (rules, q)
-
 pub returns : goal.returns
 returns c =
     let memo = c.args.memo.now in

@@ -4,4 +4,4 @@ use Rattle.text.proofs.Putting.{put_counts}
 use Rattle.text.proofs.refusal.Goals as goal
 
 pub returns : goal.returns
-returns c = put_counts c.put_pair.ensures refl
+returns c = rw (← c.from.ensures) (put_counts c.put_pair.ensures refl)

@@ -2,8 +2,10 @@
 use Rattle.walk.proofs.Steps.{reached_from}
 use Rattle.walk.proofs.Members.{path_count}
 use Rattle.walk.proofs.Follow.{follows}
-use borrow.Author.Rules.{rules}
 use Rattle.walk.proofs.advance.Goals as goal
 
 pub returns : goal.returns
-returns c = (reached_from c.climb-s.ensures.0 c.land-m.ensures.0, c.land-m.ensures.1, follows c.climb-s.ensures.3 (path_count c.climb-s.ensures.0.path c.climb-s.ensures.1 c.climb-s.ensures.2.below) c.land-m.ensures.2 c.land-m.ensures.3)
+returns c =
+    let u = c.in_ok-p.ensures in
+    let d = c.descend.ensures in
+    (reached_from u.0 d.0, d.1, follows u.3 (path_count u.0.path u.1 u.2.below) d.2 d.3 d.4)

@@ -1,20 +1,11 @@
 -- `walk::climb` meets its contract. Assumes nothing.
 use mathlib.Core.List.{[]}
-use mathlib.Core.Path.{refl}
-use Prim.Native.Nat.{◌-◌}
 use lib.ListN.{take}
 use Rattle.sets.specs.Words.{set_of}
 use Rattle.walk.specs.Paths.{around, Carries}
-use Rattle.walk.proofs.Paths.{fits_entry}
-use Rattle.walk.proofs.Steps.{Behind, up_start, up_end, up_found, up_more}
-use Rattle.walk.proofs.Carry.{carries_zero, carries_holds, carries_pop}
-use Rattle.walk.proofs.Follow.{Trimmed, trim_start, trim_pop, parts_none, parts_pop, shorter_none, shorter_pop}
-use borrow.Author.Rules.{rules}
-use native.Mathlib.Omega.{arith}
+use Rattle.walk.proofs.Steps.{Behind}
+use Rattle.walk.proofs.Follow.{Trimmed}
 use Rattle.walk.proofs.climb.Given as goal
 
 abbrev pub invariant-loop-d : goal.invariant-loop-d
 invariant-loop-d l = Behind l.n l.nodes l.count l.path l.d (around l.nodes (take l.depth l.path) []) × Carries l.nodes l.path l.d l.set × Trimmed (set_of l.initial.set) (set_of l.set)
-
-abbrev pub decreases-loop-d : goal.decreases-loop-d
-decreases-loop-d l = l.d

@@ -1,18 +1,12 @@
 -- `walk::seek` meets its contract. Assumes nothing.
-use mathlib.Core.Path.{◌≡◌, refl}
+use mathlib.Core.Path.{refl}
 use mathlib.Core.Logic.{⊎_elim}
-use lib.ListN.{length, length-set}
-use Rattle.paper.specs.Sets.{Within}
-use Rattle.paper.specs.Order.{rest}
-use Rattle.paper.specs.Cuts.{sets_of}
+use lib.ListN.{length-set}
 use Rattle.sets.specs.Words.{set_of}
-use Rattle.tables.specs.Table.{den}
-use Rattle.walk.specs.Paths.{Carries}
 use Rattle.walk.proofs.Paths.{room_for, fits_at, open_leaf, wide_enough}
-use Rattle.walk.proofs.After.{At, walk_start, turn, stop_one, stop_end, stop_zero, spotted_as}
+use Rattle.walk.proofs.After.{walk_start, turn, stop_one, stop_end, stop_zero, climbed_as}
 use Rattle.walk.proofs.Carry.{carries_room, carries_push, carries_empty}
 use Rattle.walk.proofs.Follow.{within_on, within_put, parts_stop}
-use borrow.Author.Rules.{rules}
 use native.Mathlib.Omega.{arith}
 use Rattle.walk.proofs.seek.Goals as goal
 
@@ -103,8 +97,5 @@ shape_of-path c = c.loop-node.invariant.1
 
 pub returns : goal.returns
 returns c =
-    let a = c.loop-node.invariant.0 in let wide = wide_enough a.path c.args.s.now c.requires.1 in (
-      spotted_as (⊎_elim (λ t. stop_end a wide t.lowest-low-then-node-eq1.ensures t.if-low-n.false) (λ t. let z = t.if-node-eq1.false in stop_zero a (omega arith)) c.if-node-eq1.branch-raw) c.climb.ensures.0,
-      c.climb.ensures.1,
-      c.climb.ensures.2,
-    )
+    let a = c.loop-node.invariant.0 in let wide = wide_enough a.path c.args.s.now c.requires.1 in
+    climbed_as _ _ _ _ _ _ c.climb.result (⊎_elim (λ t. stop_end a wide t.lowest-low-then-node-eq1.ensures t.if-low-n.false) (λ t. let z = t.if-node-eq1.false in stop_zero a (omega arith)) c.if-node-eq1.branch-raw) c.climb.ensures

@@ -1,19 +1,13 @@
 -- `walk::seek` meets its contract. Assumes nothing.
-use mathlib.Core.Path.{◌≡◌, refl}
-use mathlib.Core.Logic.{⊎_elim}
-use lib.ListN.{length, length-set}
+use mathlib.Core.Path.{◌≡◌}
+use lib.ListN.{length}
 use Rattle.paper.specs.Sets.{Within}
 use Rattle.paper.specs.Order.{rest}
 use Rattle.paper.specs.Cuts.{sets_of}
 use Rattle.sets.specs.Words.{set_of}
 use Rattle.tables.specs.Table.{den}
 use Rattle.walk.specs.Paths.{Carries}
-use Rattle.walk.proofs.Paths.{room_for, fits_at, open_leaf, wide_enough}
-use Rattle.walk.proofs.After.{At, walk_start, turn, stop_one, stop_end, stop_zero, spotted_as}
-use Rattle.walk.proofs.Carry.{carries_room, carries_push, carries_empty}
-use Rattle.walk.proofs.Follow.{within_on, within_put, parts_stop}
-use borrow.Author.Rules.{rules}
-use native.Mathlib.Omega.{arith}
+use Rattle.walk.proofs.After.{At}
 use Rattle.walk.proofs.seek.Given as goal
 
 abbrev pub invariant-loop-node : goal.invariant-loop-node

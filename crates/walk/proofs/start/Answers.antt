@@ -1,15 +1,23 @@
 -- `walk::start` meets its contract. Assumes nothing.
-use mathlib.Core.Path.{refl}
-use Rattle.walk.proofs.After.{start_all, start_after}
-use Rattle.walk.proofs.Follow.{parts_none}
-use borrow.Author.Rules.{rules}
+use mathlib.Core.Path.{refl, sym, ◌∙◌}
+use native.Mathlib.Omega.{arith}
+use Rattle.paper.specs.Cuts.{sets_of}
+use Rattle.tables.specs.Table.{den}
+use Rattle.walk.proofs.Paths.{around_none}
+use Rattle.walk.proofs.Steps.{ended_zero, ended_as}
+use Rattle.walk.proofs.After.{listed_all, reached_as}
+use Rattle.walk.proofs.Follow.{parts_none, starts}
 use Rattle.walk.proofs.start.Goals as goal
 
-pub land-m-requires : goal.land-m-requires
-land-m-requires c = (c.requires.0, λ _. refl, c.requires.2, parts_none c.requires.0 c.requires.2 c.args.root refl)
+pub returns-then-root-eq0 : goal.returns-then-root-eq0
+returns-then-root-eq0 c = ended_as (listed_all c.args.n c.args.nodes.now c.args.root c.args.begin c.args.s.now c.if-not-begin.false) (ended_zero c.requires.0 c.requires.2 c.if-root-eq0.true)
 
-pub returns-then-begin : goal.returns-then-begin
-returns-then-begin c = let g = c.land-m.ensures.2 in (start_all c.args.root c.args.begin c.args.s.now c.if-begin.true c.land-m.ensures.0, c.land-m.ensures.1, record { no_member = refl; no_event = refl; inside = g.inside; within = g.within })
+pub descend-requires : goal.descend-requires
+descend-requires c = (c.requires.0, omega arith, c.requires.2, parts_none c.requires.0 c.requires.2 c.args.root refl)
 
 pub returns : goal.returns
-returns c = (start_after c.args.root c.args.begin c.args.s.now c.if-begin.false c.next_after-m.ensures.0, c.next_after-m.ensures.1, record { no_member = refl; no_event = refl; inside = c.next_after-m.ensures.2; within = c.next_after-m.ensures.3 })
+returns c =
+    let T = c.args.nodes.now in
+    let d = c.descend.ensures in
+    let all = listed_all c.args.n T c.args.root c.args.begin c.args.s.now c.if-not-begin.false ∙ sym (around_none T (sets_of (den T c.args.root))) in
+    (reached_as all d.0, d.1, starts d.2 d.3 d.4)

@@ -1,5 +1,4 @@
 -- The leaves, and then the memo. Assumes nothing.
-use borrow.Author.Rules.{rules}
 use native.Mathlib.Omega.{arith}
 use Rattle.without.proofs.Apart.{ask_one, ask_none, ask_leaf, ask_memo}
 use Rattle.without.proofs.ask.Goals as goal

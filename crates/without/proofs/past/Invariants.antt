@@ -1,7 +1,5 @@
 -- The invariant: the node at hand stands for g. Assumes nothing.
-use borrow.Author.Rules.{rules}
 use Rattle.without.specs.Without.{Passed}
-use Rattle.without.proofs.Apart.{past_none, past_more, past_less}
 use Rattle.without.proofs.past.Given as goal
 
 abbrev pub invariant-loop-e : goal.invariant-loop-e

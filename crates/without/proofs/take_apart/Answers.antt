@@ -1,5 +1,4 @@
 -- The three ways in which two top events can stand are three laws. Assumes nothing.
-use borrow.Author.Rules.{rules}
 use Rattle.without.proofs.Apart.{part_earlier, part_later, part_equal, part_past}
 use Rattle.without.proofs.take_apart.Goals as goal
 

@@ -2,21 +2,21 @@
 -- Assumes nothing.
 use mathlib.Core.Path.{sym, ◌∙◌}
 use native.Mathlib.Omega.{arith}
-use Rattle.writing.proofs.Writing.{judged_few, judged_sited, judged_done, judged_refused}
-use borrow.Author.Rules.{rules}
+use Rattle.records.proofs.Closing.{passed_on}
+use Rattle.writing.proofs.Writing.{judged_sited, judged_done, judged_refused}
 use Rattle.writing.proofs.judged.Goals as goal
 
 pub lost-requires : goal.lost-requires
-lost-requires c = judged_few c.survey-v.ensures (sym c.number.ensures ∙ c.if-number-eq0.true)
+lost-requires c = (rw c.in_ok-n.was at c.survey.ensures).few
 
-pub overflow_mul-length : goal.overflow_mul-length
-overflow_mul-length c = rw c.length.ensures (record { fits = omega (arith, judged_few c.survey-v.ensures (sym c.number.ensures ∙ c.if-number-eq0.true), rw c.in-At.is at c.lost.ensures.1) })
+pub overflow_mul-result : goal.overflow_mul-result
+overflow_mul-result c = rw c.length.ensures (record { fits = omega (arith, (rw c.in_ok-n.was at c.survey.ensures).few, rw c.in-Some.is at c.lost.ensures.1) })
 
-pub returns-in-At : goal.returns-in-At
-returns-in-At c = judged_sited c.survey-v.ensures (sym c.number.ensures ∙ c.if-number-eq0.true) (sym c.in-At.is ∙ c.lost.ensures.0) c.length.ensures c.unwritten.ensures.0
+pub returns-in-Some : goal.returns-in-Some
+returns-in-Some c = judged_sited (rw c.in_ok-n.was at c.survey.ensures) (sym c.in-Some.is ∙ c.lost.ensures.0) c.length.ensures
 
-pub returns-in-Nothing : goal.returns-in-Nothing
-returns-in-Nothing c = judged_done c.survey-v.ensures (sym c.number.ensures ∙ c.if-number-eq0.true) (sym c.in-Nothing.is ∙ c.lost.ensures.0)
+pub returns : goal.returns
+returns c = judged_done (rw c.in_ok-n.was at c.survey.ensures) (sym c.in_default.is ∙ c.lost.ensures.0)
 
-pub returns-else-number-eq0 : goal.returns-else-number-eq0
-returns-else-number-eq0 c = judged_refused c.survey-v.ensures (λ z. c.if-number-eq0.false (c.number.ensures ∙ z))
+pub returns-in_err-n : goal.returns-in_err-n
+returns-in_err-n c = rw (passed_on c.from_residual.ensures.1) (judged_refused _ (rw c.in_err-n.was at c.survey.ensures))

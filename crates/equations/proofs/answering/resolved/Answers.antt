@@ -1,8 +1,7 @@
 -- `equations::answering::resolved` meets its contract. Assumes nothing.
-use borrow.Author.Rules.{rules}
 use mathlib.Core.Path.{sym}
 use lib.Seq.{length-take-le}
-use Rattle.equations.proofs.Knowing.{room_kept, ready_room, ready_fill, scanned_known}
+use Rattle.equations.proofs.Knowing.{ready_room, ready_fill, scanned_known}
 use Rattle.equations.proofs.answering.resolved.Goals as goal
 
 pub fill-used-requires : goal.fill-used-requires

@@ -1,12 +1,11 @@
 -- `equations::answering::rooted` meets its contract. Assumes nothing.
-use borrow.Author.Rules.{rules}
 use mathlib.Core.Path.{refl}
 use Rattle.equations.proofs.Rules.{no_root}
 use Rattle.equations.proofs.Knowing.{room_kept}
 use Rattle.equations.proofs.answering.rooted.Goals as goal
 
-pub one_root-w-requires : goal.one_root-w-requires
-one_root-w-requires c =
+pub one_root-requires : goal.one_root-requires
+one_root-requires c =
     record {
       arrays = c.requires.known.arrays;
       count_in_bounds = c.requires.room.rooms.marks;
@@ -16,13 +15,13 @@ pub climbed-requires : goal.climbed-requires
 climbed-requires c =
     record {
       known = c.requires.known;
-      room = room_kept c.requires.room c.one_root-w.auto.mark refl refl refl;
+      room = room_kept c.requires.room c.one_root.auto.mark refl refl refl;
       all_in_order = c.requires.all_in_order;
-      one_root = rw c.in-One.is at c.one_root-w.ensures;
+      one_root = rw c.in-Some.is at c.one_root.ensures;
     }
 
-pub returns-in-Not : goal.returns-in-Not
-returns-in-Not c = no_root c.requires.known c.requires.all_in_order (rw c.in-Not.is at c.one_root-w.ensures) c.refused.ensures
+pub returns-in_default : goal.returns-in_default
+returns-in_default c = rw c.from.ensures (no_root c.requires.known c.requires.all_in_order (rw c.in_default.is at c.one_root.ensures))
 
-pub returns-in-One : goal.returns-in-One
-returns-in-One c = c.climbed.ensures
+pub returns : goal.returns
+returns c = c.climbed.ensures

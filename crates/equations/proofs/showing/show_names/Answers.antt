@@ -1,5 +1,4 @@
 -- `equations::showing::show_names` meets its contract. Assumes nothing.
-use borrow.Author.Rules.{rules}
 use Rattle.equations.proofs.Shown.{events_showable, gates_showable, both_shown}
 use Rattle.equations.proofs.showing.show_names.Goals as goal
 

@@ -1,9 +1,8 @@
 -- `exported::moving::matticklet_to_sites` meets its contract. Assumes nothing.
 use Rattle.exported.proofs.Answers.{told}
-use borrow.Author.Rules.{rules}
 use Rattle.exported.proofs.moving.matticklet_to_sites.Goals as goal
 
 pub returns : goal.returns
 returns c =
-    let both = told c.to_sites-w.ensures c.number.ensures c.place.ensures in
+    let both = told c.to_sites-w.ensures c.numbers_of.ensures in
     record { answer_after = both.0; room_after = both.1 }

@@ -1,7 +1,6 @@
 -- `exported::ranking::matticklet_importance` meets its contract. Assumes nothing.
-use mathlib.Core.Path.{refl}
-use borrow.Author.Rules.{rules}
+use Rattle.paper.specs.Refusals.{number_of}
 use Rattle.exported.proofs.ranking.matticklet_importance.Goals as goal
 
 pub returns : goal.returns
-returns c = (c.importance-r.result, (c.importance-r.ensures, refl))
+returns c = (record { number = number_of c.importance-r.result; place = 0 }, (c.importance-r.ensures, c.plain.ensures))

@@ -1,5 +1,4 @@
 -- `exported::reporting::matticklet_report` meets its contract. Assumes nothing.
-use borrow.Author.Rules.{rules}
 use Rattle.exported.proofs.reporting.matticklet_report.Goals as goal
 
 pub returns : goal.returns

@@ -1,5 +1,4 @@
 -- `exporting::lines::lay_chance` meets its contract. Assumes nothing.
-use borrow.Author.Rules.{rules}
 use Rattle.exporting.proofs.Laying.{lay_then, lay_same}
 use Rattle.exporting.proofs.Chances.{chance_line_lem}
 use native.Mathlib.Omega.{arith}

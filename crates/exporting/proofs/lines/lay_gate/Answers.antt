@@ -1,5 +1,4 @@
 -- `exporting::lines::lay_gate` meets its contract. Assumes nothing.
-use borrow.Author.Rules.{rules}
 use Rattle.exporting.proofs.Laying.{lay_then, lay_same}
 use Rattle.exporting.proofs.Gates.{gate_line_lem}
 use native.Mathlib.Omega.{arith}

@@ -1,5 +1,4 @@
 -- `exporting::lines::lay_right` meets its contract. Assumes nothing.
-use borrow.Author.Rules.{rules}
 use Rattle.exporting.proofs.Laying.{lay_then, lay_same}
 use Rattle.exporting.proofs.Rows.{right_one, right_and, right_or, right_least}
 use native.Mathlib.Omega.{arith}

@@ -1,5 +1,4 @@
 -- `exporting::lines::lay_text` meets its contract. Assumes nothing.
-use borrow.Author.Rules.{rules}
 use Rattle.exporting.proofs.Chances.{lay_text}
 use Rattle.exporting.proofs.lines.lay_text.Goals as goal
 

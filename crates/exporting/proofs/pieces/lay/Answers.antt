@@ -1,5 +1,4 @@
 -- `exporting::pieces::lay` meets its contract. Assumes nothing.
-use borrow.Author.Rules.{rules}
 use Rattle.exporting.proofs.Laying.{lay_put, lay_past}
 use Rattle.exporting.proofs.pieces.lay.Goals as goal
 

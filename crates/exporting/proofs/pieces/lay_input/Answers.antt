@@ -1,5 +1,4 @@
 -- `exporting::pieces::lay_input` meets its contract. Assumes nothing.
-use borrow.Author.Rules.{rules}
 use Rattle.exporting.proofs.Laying.{lay_same}
 use Rattle.exporting.proofs.Rows.{event_name_lem, gate_name_lem, failed_name, sound_name}
 use native.Mathlib.Omega.{arith}

@@ -1,5 +1,4 @@
 -- `exporting::pieces::lay_next` meets its contract. Assumes nothing.
-use borrow.Author.Rules.{rules}
 use Rattle.exporting.proofs.Laying.{lay_then}
 use native.Mathlib.Omega.{arith}
 use Rattle.exporting.proofs.pieces.lay_next.Goals as goal

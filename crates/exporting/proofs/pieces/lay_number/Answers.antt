@@ -1,5 +1,4 @@
 -- `exporting::pieces::lay_number` meets its contract. Assumes nothing.
-use borrow.Author.Rules.{rules}
 use Rattle.exporting.proofs.Laying.{lay_digits}
 use Rattle.exporting.proofs.pieces.lay_number.Goals as goal
 

@@ -1,5 +1,4 @@
 -- `exporting::pieces::lay_row` meets its contract. Assumes nothing.
-use borrow.Author.Rules.{rules}
 use Rattle.exporting.proofs.Rows.{row_whole}
 use Rattle.exporting.proofs.pieces.lay_row.Goals as goal
 

@@ -1,15 +1,10 @@
 -- `planner::proposing::take_all` meets its contract. Assumes nothing.
-use borrow.Author.Rules.{rules}
-use mathlib.Core.Path.{◌≡◌, refl, sym, ap, ◌∙◌}
-use native.Mathlib.Omega.{arith}
+use mathlib.Core.Path.{◌≡◌}
 use lib.ListN.{length}
 use Rattle.sets.specs.Words.{words, set_of}
-use Rattle.sets.proofs.Words.{empty_none}
 use Rattle.remaining.specs.Families.{family}
-use Rattle.remaining.proofs.Answering.{some_event_lem, few_events}
 use Rattle.planner.proofs.Planning.{outside}
-use Rattle.planner.proofs.Checking.{area_kept}
-use Rattle.planner.proofs.Taking.{Going, going_start, going_less, going_within, going_next, going_end, not_beyond, fits_still, enough_still, tallied_of}
+use Rattle.planner.proofs.Taking.{Going}
 use Rattle.planner.proofs.proposing.take_all.Given as goal
 
 abbrev pub invariant-loop-counts : goal.invariant-loop-counts

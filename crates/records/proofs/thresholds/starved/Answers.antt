@@ -2,7 +2,6 @@
 -- Assumes nothing.
 use mathlib.Core.Path.{sym}
 use Rattle.records.proofs.Starving.{not_yet, plain_last, last_there, found_last}
-use borrow.Author.Rules.{rules}
 use Rattle.records.proofs.thresholds.starved.Goals as goal
 
 pub returns-then-s-gt0 : goal.returns-then-s-gt0

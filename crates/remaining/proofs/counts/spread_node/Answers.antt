@@ -1,5 +1,4 @@
 -- `remaining::counts::spread_node` meets its contract. Assumes nothing.
-use borrow.Author.Rules.{rules}
 use mathlib.Core.Path.{sym, ◌∙◌}
 use native.Mathlib.Omega.{arith}
 use Rattle.remaining.proofs.Counting.{spread_kept, spread_both}

@@ -1,5 +1,4 @@
 -- `remaining::marks::by_failed` meets its contract. Assumes nothing.
-use borrow.Author.Rules.{rules}
 use lib.Dec.{eqb}
 use lib.ListN.{get_or}
 use Rattle.remaining.proofs.Marking.{not_by, then_by}

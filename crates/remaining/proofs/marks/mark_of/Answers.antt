@@ -1,5 +1,4 @@
 -- `remaining::marks::mark_of` meets its contract. Assumes nothing.
-use borrow.Author.Rules.{rules}
 use Rattle.remaining.proofs.Marking.{by_failed, mark_failed, mark_sound}
 use Rattle.remaining.proofs.marks.mark_of.Goals as goal
 

@@ -1,5 +1,4 @@
 -- `remaining::nodes::holds` meets its contract. Assumes nothing.
-use borrow.Author.Rules.{rules}
 use Rattle.remaining.proofs.Marking.{member_bit}
 use Rattle.remaining.proofs.nodes.holds.Goals as goal
 

@@ -1,5 +1,4 @@
 -- `remaining::nodes::read_node` meets its contract. Assumes nothing.
-use borrow.Author.Rules.{rules}
 use Rattle.remaining.proofs.Marking.{reads}
 use Rattle.remaining.proofs.nodes.read_node.Goals as goal
 

@@ -2,7 +2,6 @@
 use mathlib.Core.Path.{sym, ◌∙◌}
 use native.Mathlib.Omega.{arith}
 use Rattle.review.proofs.Weights.{few_0, few_1, few_slot}
-use borrow.Author.Rules.{rules}
 use Rattle.review.proofs.weighing.few_in.Goals as goal
 
 pub returns-then-i-eq0 : goal.returns-then-i-eq0

@@ -2,7 +2,6 @@
 use native.Mathlib.Omega.{arith}
 use Rattle.digits.proofs.Steps.{number_up}
 use Rattle.review.proofs.Weights.{likelier_law}
-use borrow.Author.Rules.{rules}
 use Rattle.review.proofs.weighing.likelier.Goals as goal
 
 pub place-xs-requires : goal.place-xs-requires
@@ -15,7 +14,7 @@ pub bounds-chances-e : goal.bounds-chances-e
 bounds-chances-e c = omega (arith, c.requires.0, c.requires.3.enough)
 
 pub scale-requires : goal.scale-requires
-scale-requires c = let h = c.requires.3.chances.each c.args.e c.requires.0 in (c.place-xs.ensures.1, omega (arith, c.place-xs.ensures.2), omega (arith, c.wide.ensures))
+scale-requires c = let h = c.requires.3.chances.each c.args.e c.requires.0 in (c.place-xs.ensures.1, omega (arith, c.place-xs.ensures.2), omega (arith, c.from.ensures))
 
 pub likeliest-x-requires : goal.likeliest-x-requires
 likeliest-x-requires c = (c.requires.1, c.requires.3, c.scale.ensures.1, omega (arith, c.requires.1.few_events, c.place-xs.ensures.2, c.scale.auto.ds))
@@ -51,4 +50,4 @@ pub at_most-requires : goal.at_most-requires
 at_most-requires c = (number_up c.lift-2.ensures.1 (omega arith), number_up c.lift.ensures.1 (omega arith), omega (arith, c.requires.1.few_events, c.likeliest-x.ensures.3, c.likeliest-y.ensures.3, c.place-ys.ensures.2, c.likeliest-y.auto.ds, c.lift-2.auto.ds), omega (arith, c.requires.1.few_events, c.likeliest-x.ensures.3, c.likeliest-y.ensures.3, c.place-xs.ensures.2, c.scale.auto.ds, c.likeliest-x.auto.ds, c.lift.auto.ds))
 
 pub returns : goal.returns
-returns c = likelier_law c.args.chances.now c.args.nodes.now c.args.e c.args.f c.args.s c.at_most.result c.place-xs.ensures.0 c.wide.ensures c.scale.ensures.0 c.likeliest-x.ensures.0 c.likeliest-x.ensures.1 c.place-ys.ensures.0 c.likeliest-y.ensures.0 c.likeliest-y.ensures.1 c.lift.ensures.0 c.lift-2.ensures.0 c.at_most.ensures
+returns c = likelier_law c.args.chances.now c.args.nodes.now c.args.e c.args.f c.args.s c.at_most.result c.place-xs.ensures.0 c.from.ensures c.scale.ensures.0 c.likeliest-x.ensures.0 c.likeliest-x.ensures.1 c.place-ys.ensures.0 c.likeliest-y.ensures.0 c.likeliest-y.ensures.1 c.lift.ensures.0 c.lift-2.ensures.0 c.at_most.ensures

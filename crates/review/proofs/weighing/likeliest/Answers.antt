@@ -2,8 +2,7 @@
 use mathlib.Core.Path.{refl, ◌∙◌}
 use native.Mathlib.Omega.{arith}
 use Rattle.tables.proofs.Lent.{lent_node}
-use Rattle.review.proofs.Weights.{Along, along_start, along_sound, along_failed, along_end, along_none}
-use borrow.Author.Rules.{rules}
+use Rattle.review.proofs.Weights.{along_start, along_sound, along_failed, along_end, along_none}
 use Rattle.review.proofs.weighing.likeliest.Goals as goal
 
 pub loop-i-init : goal.loop-i-init
@@ -34,7 +33,7 @@ pub bounds-chances-e : goal.bounds-chances-e
 bounds-chances-e c = omega (arith, (lent_node c.requires.0 c.loop-i-test.true c.loop-i.invariant.inside).event, c.event_of-e.ensures, c.requires.1.enough)
 
 pub scale-requires : goal.scale-requires
-scale-requires c = let h = c.requires.1.chances.each c.event_of-e.result (omega (arith, (lent_node c.requires.0 c.loop-i-test.true c.loop-i.invariant.inside).event, c.event_of-e.ensures)) in (c.loop-i.invariant.digits, omega (arith, c.loop-i.invariant.low c.loop-i-test.true, (lent_node c.requires.0 c.loop-i-test.true c.loop-i.invariant.inside).event, c.loop-i.invariant.long, c.requires.3), omega (arith, c.wide.ensures))
+scale-requires c = let h = c.requires.1.chances.each c.event_of-e.result (omega (arith, (lent_node c.requires.0 c.loop-i-test.true c.loop-i.invariant.inside).event, c.event_of-e.ensures)) in (c.loop-i.invariant.digits, omega (arith, c.loop-i.invariant.low c.loop-i-test.true, (lent_node c.requires.0 c.loop-i-test.true c.loop-i.invariant.inside).event, c.loop-i.invariant.long, c.requires.3), omega (arith, c.from.ensures))
 
 pub overflow_add-u : goal.overflow_add-u
 overflow_add-u c = omega (arith, c.loop-i.invariant.low c.loop-i-test.true, (lent_node c.requires.0 c.loop-i-test.true c.loop-i.invariant.inside).event, c.requires.3, c.well_formed)
@@ -43,10 +42,10 @@ pub failed_of-i-requires : goal.failed_of-i-requires
 failed_of-i-requires c = (c.loop-i-test.true, omega (arith, c.requires.0.fits, c.loop-i.invariant.inside, c.loop-i-test.true))
 
 pub loop-i-smaller : goal.loop-i-smaller
-loop-i-smaller c = (along_failed c.requires.0 c.loop-i.invariant c.loop-i-test.true c.event_of-e.ensures c.failed_of-i.ensures c.wide.ensures (c.requires.1.each c.loop-i.i c.loop-i-test.true (omega (arith, c.loop-i.invariant.down))) c.if-picks-i-eq0.false c.scale.auto.ds c.scale.ensures.0 c.scale.ensures.1).1
+loop-i-smaller c = (along_failed c.requires.0 c.loop-i.invariant c.loop-i-test.true c.event_of-e.ensures c.failed_of-i.ensures c.from.ensures (c.requires.1.each c.loop-i.i c.loop-i-test.true (omega (arith, c.loop-i.invariant.down))) c.if-picks-i-eq0.false c.scale.auto.ds c.scale.ensures.0 c.scale.ensures.1).1
 
 pub loop-i-preserved : goal.loop-i-preserved
-loop-i-preserved c = (along_failed c.requires.0 c.loop-i.invariant c.loop-i-test.true c.event_of-e.ensures c.failed_of-i.ensures c.wide.ensures (c.requires.1.each c.loop-i.i c.loop-i-test.true (omega (arith, c.loop-i.invariant.down))) c.if-picks-i-eq0.false c.scale.auto.ds c.scale.ensures.0 c.scale.ensures.1).0
+loop-i-preserved c = (along_failed c.requires.0 c.loop-i.invariant c.loop-i-test.true c.event_of-e.ensures c.failed_of-i.ensures c.from.ensures (c.requires.1.each c.loop-i.i c.loop-i-test.true (omega (arith, c.loop-i.invariant.down))) c.if-picks-i-eq0.false c.scale.auto.ds c.scale.ensures.0 c.scale.ensures.1).0
 
 pub scale-requires-then-i-eq0 : goal.scale-requires-then-i-eq0
 scale-requires-then-i-eq0 c = (c.loop-i.invariant.digits, omega (arith, c.loop-i.invariant.high, c.loop-i.invariant.long, c.requires.3), omega arith)

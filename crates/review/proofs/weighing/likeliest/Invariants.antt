@@ -1,9 +1,5 @@
 -- `review::weighing::likeliest` meets its contract. Assumes nothing.
-use mathlib.Core.Path.{refl, ◌∙◌}
-use native.Mathlib.Omega.{arith}
-use Rattle.tables.proofs.Lent.{lent_node}
-use Rattle.review.proofs.Weights.{Along, along_start, along_sound, along_failed, along_end, along_none}
-use borrow.Author.Rules.{rules}
+use Rattle.review.proofs.Weights.{Along}
 use Rattle.review.proofs.weighing.likeliest.Given as goal
 
 abbrev pub invariant-loop-i : goal.invariant-loop-i

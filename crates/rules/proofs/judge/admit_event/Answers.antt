@@ -2,7 +2,6 @@
 -- Assumes nothing.
 use mathlib.Core.Path.{sym, ◌∙◌}
 use borrow.Author.Tests.{lt-ltb, le-ltb, le-leb, lt-leb}
-use borrow.Author.Rules.{rules}
 use Rattle.rules.proofs.judge.admit_event.Goals as goal
 
 pub returns-then-s-gt0 : goal.returns-then-s-gt0

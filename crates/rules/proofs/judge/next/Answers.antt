@@ -8,12 +8,11 @@ use native.Mathlib.Omega.{arith}
 use Rattle.rules.proofs.Cases.{width_le}
 use lib.Seq.{take_all}
 use Rattle.rules.specs.Rules.{step_of}
-use borrow.Author.Rules.{rules}
 use Rattle.rules.proofs.judge.next.Goals as goal
 
 pub admit-requires : goal.admit-requires
-admit-requires c = let b = c.args.bytes.now in let at = c.args.s.at in let w = width_le (take (length b - at) (drop at b)) in (c.requires.0, rw c.decode-r.ensures (omega (arith, simp (length-take, length-drop) at w)))
+admit-requires c = let b = c.args.bytes.now in let at = c.args.s.at in let w = width_le (take (length b - at) (drop at b)) in (c.requires.0, rw c.decode.ensures (omega (arith, simp (length-take, length-drop) at w)))
 
 pub returns : goal.returns
 unfolding step_of
-returns c = let b = c.args.bytes.now in let at = c.args.s.at in let whole : take (length b - at) (drop at b) ≡ drop at b = take_all (length b - at) (drop at b) (le_of_eq (length-drop at b)) in rw (← whole) (rw c.decode-r.ensures at c.admit.ensures)
+returns c = let b = c.args.bytes.now in let at = c.args.s.at in let whole : take (length b - at) (drop at b) ≡ drop at b = take_all (length b - at) (drop at b) (le_of_eq (length-drop at b)) in rw (← whole) (rw c.decode.ensures at c.admit.ensures)

@@ -1,29 +1,20 @@
 -- `scanning::definitions::define` meets its contract. Assumes nothing.
-use borrow.Author.Rules.{rules}
-use native.Mathlib.Omega.{arith}
-use mathlib.Core.Path.{◌≡◌, refl, ◌∙◌}
-use Prim.Native.Nat.{◌-◌}
-use lib.ListN.{length}
-use Rattle.scanning.specs.Judged.{Defining}
+use Rattle.std.proofs.Common.{arith}
+use Rattle.names.proofs.Interning.{zeros_filled}
 use Rattle.scanning.proofs.Defining.{defining_start, defining_end}
 use Rattle.scanning.proofs.definitions.define.Goals as goal
 
 pub loop-at-init : goal.loop-at-init
-loop-at-init c = (defining_start (omega (arith, c.clear.auto.heads, c.requires.count_in_bounds)) c.clear.ensures, refl)
+loop-at-init c = defining_start (omega (arith, c.fill.auto.self, c.requires.count_in_bounds)) (zeros_filled _ (c.fill.ensures.after (λ y e. e)))
 
 pub define_line-w-requires : goal.define_line-w-requires
-define_line-w-requires c =
-    record {
-      gathered = c.requires.gathered;
-      defining = c.loop-at.invariant.0;
-      at_in_bounds = c.loop-at-test.true;
-    }
+define_line-w-requires c = record { gathered = c.requires.gathered; defining = c.loop-at.invariant; at_in_bounds = c.loop-at-test.true }
 
 pub loop-at-smaller : goal.loop-at-smaller
 loop-at-smaller c = omega (arith, c.define_line-w.ensures.0, c.loop-at-test.true)
 
 pub loop-at-preserved : goal.loop-at-preserved
-loop-at-preserved c = (c.define_line-w.ensures.1, c.define_line-w.auto.defs ∙ c.loop-at.invariant.1)
+loop-at-preserved c = c.define_line-w.ensures.1
 
 pub returns : goal.returns
-returns c = defining_end c.loop-at.invariant.0 c.loop-at-test.false
+returns c = defining_end c.loop-at.invariant c.loop-at-test.false

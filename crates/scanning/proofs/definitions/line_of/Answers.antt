@@ -1,5 +1,4 @@
 -- `scanning::definitions::line_of` meets its contract. Assumes nothing.
-use borrow.Author.Rules.{rules}
 use native.Mathlib.Omega.{arith}
 use Rattle.scanning.proofs.Sites.{no_line, home_room, its_line}
 use Rattle.scanning.proofs.definitions.line_of.Goals as goal

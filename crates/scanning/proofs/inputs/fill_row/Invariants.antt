@@ -1,9 +1,8 @@
 -- `scanning::inputs::fill_row` meets its contract. Assumes nothing.
-use native.Mathlib.Omega.{arith}
 use Prim.Native.Nat.{◌-◌}
 use Rattle.paper.specs.Texts.{lines_of}
 use Rattle.paper.specs.Equations.{dict_in}
-use Rattle.scanning.proofs.Filling.{FillingRow, fill_start, fill_here, fill_room, fill_some, fill_turn, fill_end}
+use Rattle.scanning.proofs.Filling.{FillingRow}
 use Rattle.scanning.proofs.inputs.fill_row.Given as goal
 
 abbrev pub invariant-loop-j : goal.invariant-loop-j

@@ -1,30 +1,24 @@
 -- `scanning::judging::give_line` meets its contract. Assumes nothing.
-use borrow.Author.Rules.{rules}
-use Rattle.scanning.proofs.Giving.{bad_wrong, chance_room, chance_told, or_right, and_right, least_right}
+use Rattle.std.proofs.Common.{Some, ap, ◌∙◌}
+use Rattle.scanning.proofs.Giving.{bad_wrong, equation_right, chance_room, chance_wrong, chance_right}
 use Rattle.scanning.proofs.judging.give_line.Goals as goal
 
-pub line-r-requires : goal.line-r-requires
-line-r-requires c = c.requires.at_in_bounds
+pub returns-in_err-v : goal.returns-in_err-v
+returns-in_err-v c = rw c.from_residual.ensures (bad_wrong c.requires.giving c.line-r.ensures c.in_err-v.was)
 
-pub give_chance-w-requires : goal.give_chance-w-requires
-give_chance-w-requires c =
+pub returns-in_default : goal.returns-in_default
+returns-in_default c = equation_right c.requires.giving c.line-r.ensures (c.in_ok-v.was) c.in_default.not-Chance
+
+pub give_chance-requires : goal.give_chance-requires
+give_chance-requires c =
     record {
       gathered = c.requires.gathered;
       places = c.requires.places;
-      at_in_bounds = (chance_room c.requires.giving c.line-r.ensures c.in-Chance.is, c.requires.giving.marked, c.requires.giving.room);
+      at_in_bounds = (chance_room c.requires.giving c.line-r.ensures (c.in_ok-v.was ∙ ap Some c.in-Chance.is), c.requires.giving.marked, c.requires.giving.room);
     }
 
-pub returns-in-Bad : goal.returns-in-Bad
-returns-in-Bad c = bad_wrong c.requires.giving c.line-r.ensures c.in-Bad.is
+pub returns-then-give_chance : goal.returns-then-give_chance
+returns-then-give_chance c = chance_wrong c.requires.giving c.line-r.ensures (c.in_ok-v.was ∙ ap Some c.in-Chance.is) c.if-give_chance.ensures
 
-pub returns-in-Chance : goal.returns-in-Chance
-returns-in-Chance c = chance_told c.requires.giving c.line-r.ensures c.in-Chance.is c.give_chance-w.ensures
-
-pub returns-in-Or : goal.returns-in-Or
-returns-in-Or c = or_right c.requires.giving c.line-r.ensures c.in-Or.is
-
-pub returns-in-And : goal.returns-in-And
-returns-in-And c = and_right c.requires.giving c.line-r.ensures c.in-And.is
-
-pub returns-in-AtLeast : goal.returns-in-AtLeast
-returns-in-AtLeast c = least_right c.requires.giving c.line-r.ensures c.in-AtLeast.is
+pub returns-else-give_chance : goal.returns-else-give_chance
+returns-else-give_chance c = chance_right c.requires.giving c.line-r.ensures (c.in_ok-v.was ∙ ap Some c.in-Chance.is) c.if-give_chance.ensures

@@ -1,5 +1,4 @@
 -- `scanning::numbering::gather_equation` meets its contract. Assumes nothing.
-use borrow.Author.Rules.{rules}
 use native.Mathlib.Omega.{arith}
 use Rattle.scanning.proofs.Gathering.{room_behind, gathers_equation}
 use Rattle.scanning.proofs.numbering.gather_equation.Goals as goal

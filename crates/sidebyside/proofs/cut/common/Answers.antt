@@ -1,9 +1,6 @@
 -- `sidebyside::cut::common` meets its contract. Assumes nothing.
-use borrow.Author.Rules.{rules}
 use native.Mathlib.Omega.{arith}
-use Prim.Native.Nat.{◌+◌, ◌-◌}
-use lib.ListN.{length}
-use Rattle.sidebyside.proofs.Whole.{whole_in, Sharing, share_start, share_fork, share_room, share_step}
+use Rattle.sidebyside.proofs.Whole.{whole_in, share_start, share_fork, share_room, share_step}
 use Rattle.sidebyside.proofs.cut.common.Goals as goal
 
 pub loop-from-init : goal.loop-from-init
@@ -22,10 +19,7 @@ pub rank-second-requires : goal.rank-second-requires
 rank-second-requires c = c.loop-from.invariant.within
 
 pub returns-then-first-second : goal.returns-then-first-second
-returns-then-first-second c = share_fork c.loop-from.invariant c.member-first.ensures c.rank-second.ensures (λ h. c.if-first-second.true)
-
-pub returns-then-first-ge-EVENTS : goal.returns-then-first-ge-EVENTS
-returns-then-first-ge-EVENTS c = share_fork c.loop-from.invariant c.member-first.ensures c.rank-second.ensures (λ h. absurd (omega (arith, h, c.if-first-ge-EVENTS.true)))
+returns-then-first-second c = share_fork c.loop-from.invariant c.member-first.ensures c.rank-second.ensures (λ h q. omega (arith, h, q, c.then-first-second.either))
 
 pub overflow_add-bytes : goal.overflow_add-bytes
 overflow_add-bytes c = omega (arith, (share_room c.loop-from.invariant c.member-first.ensures c.rank-second.ensures c.if-first-ge-EVENTS.false c.if-first-second.false c.width-bytes.ensures).1)

@@ -1,9 +1,6 @@
 -- `sidebyside::cut::cut_end` meets its contract. Assumes nothing.
-use borrow.Author.Rules.{rules}
 use native.Mathlib.Omega.{arith}
-use Prim.Native.Nat.{◌-◌}
-use lib.ListN.{length}
-use Rattle.sidebyside.proofs.OneCut.{Ending, ending_start, ending_out, ending_here, ending_other, ending_low, ending_room, ending_step}
+use Rattle.sidebyside.proofs.OneCut.{ending_start, ending_out, ending_here, ending_other, ending_low, ending_room, ending_step}
 use Rattle.sidebyside.proofs.cut.cut_end.Goals as goal
 
 pub loop-e-init : goal.loop-e-init

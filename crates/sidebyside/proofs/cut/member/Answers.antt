@@ -1,5 +1,4 @@
 -- `sidebyside::cut::member` meets its contract. Assumes nothing.
-use borrow.Author.Rules.{rules}
 use native.Mathlib.Omega.{arith}
 use mathlib.Core.Path.{refl}
 use Prim.Native.Nat.{◌+◌}
@@ -17,7 +16,7 @@ pub bounds-s-i-then-s-i-eq-MEMBER : goal.bounds-s-i-then-s-i-eq-MEMBER
 bounds-s-i-then-s-i-eq-MEMBER c = omega (arith, narrow_room c.requires c.if-s-i-eq-MEMBER.true)
 
 pub returns-then-s-i-eq-MEMBER : goal.returns-then-s-i-eq-MEMBER
-returns-then-s-i-eq-MEMBER c = rank_narrow c.args.s.now c.args.i (narrow_room c.requires c.if-s-i-eq-MEMBER.true) c.if-s-i-eq-MEMBER.true c.narrow_number.ensures (omega (arith, c.narrow_number.ensures, c.type_inv.s (c.args.i + 1)))
+returns-then-s-i-eq-MEMBER c = rank_narrow c.args.s.now c.args.i (narrow_room c.requires c.if-s-i-eq-MEMBER.true) c.if-s-i-eq-MEMBER.true c.from.ensures (omega (arith, c.from.ensures, c.type_inv.s (c.args.i + 1)))
 
 pub bounds-s-i-2 : goal.bounds-s-i-2
 bounds-s-i-2 c = omega (arith, whole_in c.requires)

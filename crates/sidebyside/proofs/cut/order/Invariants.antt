@@ -1,15 +1,12 @@
 -- `sidebyside::cut::order` meets its contract. Assumes nothing.
-use borrow.Author.Rules.{rules}
-use native.Mathlib.Omega.{arith}
 use Prim.Native.Nat.{◌+◌, ◌-◌}
 use lib.ListN.{length}
 use Rattle.sidebyside.specs.OneCut.{Whole}
-use Rattle.sidebyside.proofs.Whole.{whole_in, Sharing, share_both, share_fork, share_room, share_step, share_whole}
-use Rattle.sidebyside.proofs.TwoCuts.{order_first, order_second, order_same}
+use Rattle.sidebyside.proofs.Whole.{Sharing}
 use Rattle.sidebyside.proofs.cut.order.Given as goal
 
-abbrev pub invariant-loop-from : goal.invariant-loop-from
-invariant-loop-from l = Sharing l.a l.from l.b l.start l.bytes × Whole l.b (l.start + l.bytes)
+abbrev pub invariant-loop-first : goal.invariant-loop-first
+invariant-loop-first l = Sharing l.a l.from l.b l.start l.bytes × Whole l.b (l.start + l.bytes)
 
-abbrev pub decreases-loop-from : goal.decreases-loop-from
-decreases-loop-from l = length l.a - (l.from + l.bytes)
+abbrev pub decreases-loop-first : goal.decreases-loop-first
+decreases-loop-first l = length l.a - (l.from + l.bytes)

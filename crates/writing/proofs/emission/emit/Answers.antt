@@ -1,15 +1,11 @@
 -- `writing::emission::emit` meets its contract.
 -- Assumes nothing.
 use mathlib.Core.Path.{sym, ◌∙◌}
-use Prim.Native.Nat.{◌-◌}
 use native.Mathlib.Omega.{arith}
-use lib.ListN.{length}
-use Rattle.judging.specs.Bytes.{bytes_of}
 use Rattle.rules.proofs.Cases.{width_small}
 use Rattle.records.proofs.Runs.{running_bounded}
 use Rattle.judging.proofs.Following.{next_is}
-use Rattle.writing.proofs.Emitting.{Emitting, emit_start, emit_inside, emit_room, emit_sound, emit_event, emit_gate, emit_input, emit_done, emit_never, emit_same}
-use borrow.Author.Rules.{rules}
+use Rattle.writing.proofs.Emitting.{emit_start, emit_inside, emit_room, emit_sound, emit_event, emit_gate, emit_input, emit_done, emit_never, emit_same}
 use Rattle.writing.proofs.emission.emit.Goals as goal
 
 pub loop-sited-init : goal.loop-sited-init
@@ -45,38 +41,38 @@ admit-requires c = (running_bounded c.loop-sited.invariant.running, omega (arith
 pub past_event-s-requires : goal.past_event-s-requires
 past_event-s-requires c = running_bounded c.loop-sited.invariant.running
 
-pub loop-sited-smaller-in-AddEvent : goal.loop-sited-smaller-in-AddEvent
-loop-sited-smaller-in-AddEvent c = rw c.past_event-s.ensures (omega (arith, emit_sound c.loop-sited.invariant (next_is c.loop-sited.invariant.following c.within-n.ensures c.tree_record-r.ensures.0) c.tree_record-r.ensures.1 c.put.ensures (sym c.in-AddEvent.is ∙ (rw c.width.ensures at c.admit.ensures))))
+pub loop-sited-smaller-in-Ok-AddEvent : goal.loop-sited-smaller-in-Ok-AddEvent
+loop-sited-smaller-in-Ok-AddEvent c = rw c.past_event-s.ensures (omega (arith, emit_sound c.loop-sited.invariant (next_is c.loop-sited.invariant.following c.within-n.ensures c.tree_record-r.ensures.0) c.tree_record-r.ensures.1 c.put.ensures (rw c.in-Ok-AddEvent.field-0-is at (sym c.in-Ok-AddEvent.is ∙ (rw c.width.ensures at c.admit.ensures)))))
 
-pub loop-sited-preserved-in-AddEvent : goal.loop-sited-preserved-in-AddEvent
-loop-sited-preserved-in-AddEvent c = rw c.past_event-s.ensures (emit_event c.loop-sited.invariant (next_is c.loop-sited.invariant.following c.within-n.ensures c.tree_record-r.ensures.0) c.tree_record-r.ensures.1 c.put.ensures _ _ _ _ (sym c.in-AddEvent.is ∙ (rw c.width.ensures at c.admit.ensures)))
+pub loop-sited-preserved-in-Ok-AddEvent : goal.loop-sited-preserved-in-Ok-AddEvent
+loop-sited-preserved-in-Ok-AddEvent c = rw c.past_event-s.ensures (emit_event c.loop-sited.invariant (next_is c.loop-sited.invariant.following c.within-n.ensures c.tree_record-r.ensures.0) c.tree_record-r.ensures.1 c.put.ensures _ _ _ _ (rw c.in-Ok-AddEvent.field-0-is at (sym c.in-Ok-AddEvent.is ∙ (rw c.width.ensures at c.admit.ensures))))
 
 pub past_gate-s-requires : goal.past_gate-s-requires
 past_gate-s-requires c = running_bounded c.loop-sited.invariant.running
 
-pub loop-sited-smaller-in-AddGate : goal.loop-sited-smaller-in-AddGate
-loop-sited-smaller-in-AddGate c = rw c.past_gate-s.ensures (omega (arith, emit_sound c.loop-sited.invariant (next_is c.loop-sited.invariant.following c.within-n.ensures c.tree_record-r.ensures.0) c.tree_record-r.ensures.1 c.put.ensures (sym c.in-AddGate.is ∙ (rw c.width.ensures at c.admit.ensures))))
+pub loop-sited-smaller-in-Ok-AddGate : goal.loop-sited-smaller-in-Ok-AddGate
+loop-sited-smaller-in-Ok-AddGate c = rw c.past_gate-s.ensures (omega (arith, emit_sound c.loop-sited.invariant (next_is c.loop-sited.invariant.following c.within-n.ensures c.tree_record-r.ensures.0) c.tree_record-r.ensures.1 c.put.ensures (rw c.in-Ok-AddGate.field-0-is at (sym c.in-Ok-AddGate.is ∙ (rw c.width.ensures at c.admit.ensures)))))
 
-pub loop-sited-preserved-in-AddGate : goal.loop-sited-preserved-in-AddGate
-loop-sited-preserved-in-AddGate c = rw c.past_gate-s.ensures (emit_gate c.loop-sited.invariant (next_is c.loop-sited.invariant.following c.within-n.ensures c.tree_record-r.ensures.0) c.tree_record-r.ensures.1 c.put.ensures _ _ _ _ (sym c.in-AddGate.is ∙ (rw c.width.ensures at c.admit.ensures)))
+pub loop-sited-preserved-in-Ok-AddGate : goal.loop-sited-preserved-in-Ok-AddGate
+loop-sited-preserved-in-Ok-AddGate c = rw c.past_gate-s.ensures (emit_gate c.loop-sited.invariant (next_is c.loop-sited.invariant.following c.within-n.ensures c.tree_record-r.ensures.0) c.tree_record-r.ensures.1 c.put.ensures _ _ _ _ (rw c.in-Ok-AddGate.field-0-is at (sym c.in-Ok-AddGate.is ∙ (rw c.width.ensures at c.admit.ensures))))
 
 pub past_input-s-requires : goal.past_input-s-requires
-past_input-s-requires c = (running_bounded c.loop-sited.invariant.running, (emit_sound c.loop-sited.invariant (next_is c.loop-sited.invariant.following c.within-n.ensures c.tree_record-r.ensures.0) c.tree_record-r.ensures.1 c.put.ensures (sym c.in-AddInput.is ∙ (rw c.width.ensures at c.admit.ensures))).some)
+past_input-s-requires c = (running_bounded c.loop-sited.invariant.running, (emit_sound c.loop-sited.invariant (next_is c.loop-sited.invariant.following c.within-n.ensures c.tree_record-r.ensures.0) c.tree_record-r.ensures.1 c.put.ensures (rw c.in-Ok-AddInput.field-0-is at (sym c.in-Ok-AddInput.is ∙ (rw c.width.ensures at c.admit.ensures)))).some)
 
 pub loop-sited-smaller : goal.loop-sited-smaller
-loop-sited-smaller c = rw c.past_input-s.ensures (omega (arith, emit_sound c.loop-sited.invariant (next_is c.loop-sited.invariant.following c.within-n.ensures c.tree_record-r.ensures.0) c.tree_record-r.ensures.1 c.put.ensures (sym c.in-AddInput.is ∙ (rw c.width.ensures at c.admit.ensures))))
+loop-sited-smaller c = rw c.past_input-s.ensures (omega (arith, emit_sound c.loop-sited.invariant (next_is c.loop-sited.invariant.following c.within-n.ensures c.tree_record-r.ensures.0) c.tree_record-r.ensures.1 c.put.ensures (rw c.in-Ok-AddInput.field-0-is at (sym c.in-Ok-AddInput.is ∙ (rw c.width.ensures at c.admit.ensures)))))
 
 pub loop-sited-preserved : goal.loop-sited-preserved
-loop-sited-preserved c = rw c.past_input-s.ensures (emit_input c.loop-sited.invariant (next_is c.loop-sited.invariant.following c.within-n.ensures c.tree_record-r.ensures.0) c.tree_record-r.ensures.1 c.put.ensures c.requires.0 _ _ (sym c.in-AddInput.is ∙ (rw c.width.ensures at c.admit.ensures)))
+loop-sited-preserved c = rw c.past_input-s.ensures (emit_input c.loop-sited.invariant (next_is c.loop-sited.invariant.following c.within-n.ensures c.tree_record-r.ensures.0) c.tree_record-r.ensures.1 c.put.ensures c.requires.0 _ _ (rw c.in-Ok-AddInput.field-0-is at (sym c.in-Ok-AddInput.is ∙ (rw c.width.ensures at c.admit.ensures))))
 
-pub shape_of-room-in-Close : goal.shape_of-room-in-Close
-shape_of-room-in-Close c = emit_same c.loop-sited.invariant (next_is c.loop-sited.invariant.following c.within-n.ensures c.tree_record-r.ensures.0) c.tree_record-r.ensures.1 c.put.ensures
+pub shape_of-room-in-Ok-Close : goal.shape_of-room-in-Ok-Close
+shape_of-room-in-Ok-Close c = emit_same c.loop-sited.invariant (next_is c.loop-sited.invariant.following c.within-n.ensures c.tree_record-r.ensures.0) c.tree_record-r.ensures.1 c.put.ensures
 
-pub returns-in-Close : goal.returns-in-Close
-returns-in-Close c = emit_done c.loop-sited.invariant (next_is c.loop-sited.invariant.following c.within-n.ensures c.tree_record-r.ensures.0) c.tree_record-r.ensures.1 c.put.ensures (sym c.in-Close.is ∙ (rw c.width.ensures at c.admit.ensures))
+pub returns-in-Ok-Close : goal.returns-in-Ok-Close
+returns-in-Ok-Close c = emit_done c.loop-sited.invariant (next_is c.loop-sited.invariant.following c.within-n.ensures c.tree_record-r.ensures.0) c.tree_record-r.ensures.1 c.put.ensures (rw c.in-Ok-Close.field-0-is at (sym c.in-Ok-Close.is ∙ (rw c.width.ensures at c.admit.ensures)))
 
-pub shape_of-room-in-Refused : goal.shape_of-room-in-Refused
-shape_of-room-in-Refused c = emit_same c.loop-sited.invariant (next_is c.loop-sited.invariant.following c.within-n.ensures c.tree_record-r.ensures.0) c.tree_record-r.ensures.1 c.put.ensures
+pub shape_of-room-in-Err : goal.shape_of-room-in-Err
+shape_of-room-in-Err c = emit_same c.loop-sited.invariant (next_is c.loop-sited.invariant.following c.within-n.ensures c.tree_record-r.ensures.0) c.tree_record-r.ensures.1 c.put.ensures
 
-pub returns-in-Refused : goal.returns-in-Refused
-returns-in-Refused c = absurd (emit_never c.loop-sited.invariant (next_is c.loop-sited.invariant.following c.within-n.ensures c.tree_record-r.ensures.0) c.tree_record-r.ensures.1 c.put.ensures c.requires.0 _ (sym c.in-Refused.is ∙ (rw c.width.ensures at c.admit.ensures)))
+pub returns-in-Err : goal.returns-in-Err
+returns-in-Err c = absurd (emit_never c.loop-sited.invariant (next_is c.loop-sited.invariant.following c.within-n.ensures c.tree_record-r.ensures.0) c.tree_record-r.ensures.1 c.put.ensures c.requires.0 _ (sym c.in-Err.is ∙ (rw c.width.ensures at c.admit.ensures)))

@@ -3,21 +3,20 @@
 use mathlib.Core.Path.{refl}
 use native.Mathlib.Omega.{arith}
 use lib.ListN.{length-set}
-use Rattle.writing.proofs.Stores.{store_1, store_2, store_3, store_7, kept_5}
-use borrow.Author.Rules.{rules}
+use Rattle.writing.proofs.Stores.{store_1, store_2}
 use Rattle.writing.proofs.emission.put.Goals as goal
 
 pub put_event-requires : goal.put_event-requires
 put_event-requires c = rw c.in-Event.is at c.requires
 
-pub put_event-requires-in-SitedEvent : goal.put_event-requires-in-SitedEvent
-put_event-requires-in-SitedEvent c = omega (arith, rw c.in-SitedEvent.is at c.requires)
+pub put_sited_event-requires : goal.put_sited_event-requires
+put_sited_event-requires c = rw c.in-SitedEvent.is at c.requires
 
-pub bounds-b-5 : goal.bounds-b-5
-bounds-b-5 c = omega (arith, rw c.in-SitedEvent.is at c.requires, kept_5 c.args.b.now (omega (arith, rw c.in-SitedEvent.is at c.requires)) c.put_event-in-SitedEvent.ensures)
+pub put_wide-requires : goal.put_wide-requires
+put_wide-requires c = rw c.in-GateInput.is at c.requires
 
-pub bounds-b-6 : goal.bounds-b-6
-bounds-b-6 c = simp length-set (omega (arith, rw c.in-SitedEvent.is at c.requires, kept_5 c.args.b.now (omega (arith, rw c.in-SitedEvent.is at c.requires)) c.put_event-in-SitedEvent.ensures))
+pub put_wide-requires-in-WideInput : goal.put_wide-requires-in-WideInput
+put_wide-requires-in-WideInput c = rw c.in-WideInput.is at c.requires
 
 pub put_gate-requires : goal.put_gate-requires
 put_gate-requires c = rw c.in-Gate.is at c.requires
@@ -27,24 +26,6 @@ bounds-b-0 c = omega (arith, rw c.in-EventInput.is at c.requires)
 
 pub bounds-b-1 : goal.bounds-b-1
 bounds-b-1 c = simp length-set (omega (arith, rw c.in-EventInput.is at c.requires))
-
-pub bounds-b-0-in-GateInput : goal.bounds-b-0-in-GateInput
-bounds-b-0-in-GateInput c = omega (arith, rw c.in-GateInput.is at c.requires)
-
-pub bounds-b-1-in-GateInput : goal.bounds-b-1-in-GateInput
-bounds-b-1-in-GateInput c = simp length-set (omega (arith, rw c.in-GateInput.is at c.requires))
-
-pub bounds-b-2 : goal.bounds-b-2
-bounds-b-2 c = simp length-set (omega (arith, rw c.in-GateInput.is at c.requires))
-
-pub bounds-b-0-in-WideInput : goal.bounds-b-0-in-WideInput
-bounds-b-0-in-WideInput c = omega (arith, rw c.in-WideInput.is at c.requires)
-
-pub bounds-b-1-in-WideInput : goal.bounds-b-1-in-WideInput
-bounds-b-1-in-WideInput c = simp length-set (omega (arith, rw c.in-WideInput.is at c.requires))
-
-pub bounds-b-2-in-WideInput : goal.bounds-b-2-in-WideInput
-bounds-b-2-in-WideInput c = simp length-set (omega (arith, rw c.in-WideInput.is at c.requires))
 
 pub bounds-b-0-in-End : goal.bounds-b-0-in-End
 bounds-b-0-in-End c = omega (arith, rw c.in-End.is at c.requires)
@@ -56,7 +37,7 @@ pub returns-in-Event : goal.returns-in-Event
 returns-in-Event c = rw c.in-Event.is c.put_event.ensures
 
 pub returns-in-SitedEvent : goal.returns-in-SitedEvent
-returns-in-SitedEvent c = rw c.in-SitedEvent.is (store_7 c.args.b.now _ _ _ _ _ _ _ _ (rw c.in-SitedEvent.is at c.requires) c.put_event-in-SitedEvent.ensures)
+returns-in-SitedEvent c = rw c.in-SitedEvent.is c.put_sited_event.ensures
 
 pub returns-in-Gate : goal.returns-in-Gate
 returns-in-Gate c = rw c.in-Gate.is c.put_gate.ensures
@@ -65,10 +46,10 @@ pub returns-in-EventInput : goal.returns-in-EventInput
 returns-in-EventInput c = rw c.in-EventInput.is (store_2 c.args.b.now _ _ (rw c.in-EventInput.is at c.requires))
 
 pub returns-in-GateInput : goal.returns-in-GateInput
-returns-in-GateInput c = rw c.in-GateInput.is (store_3 c.args.b.now _ _ _ (rw c.in-GateInput.is at c.requires))
+returns-in-GateInput c = rw c.in-GateInput.is c.put_wide.ensures
 
 pub returns-in-WideInput : goal.returns-in-WideInput
-returns-in-WideInput c = rw c.in-WideInput.is (store_3 c.args.b.now _ _ _ (rw c.in-WideInput.is at c.requires))
+returns-in-WideInput c = rw c.in-WideInput.is c.put_wide-in-WideInput.ensures
 
 pub returns-in-End : goal.returns-in-End
 returns-in-End c = rw c.in-End.is (store_1 c.args.b.now _ (rw c.in-End.is at c.requires))

@@ -4,7 +4,6 @@ use native.Mathlib.Omega.{arith}
 use lib.ListN.{length-set}
 use borrow.Author.Tests.{eq-eqb, ne_eqb}
 use Rattle.writing.proofs.Stores.{store_2, store_3}
-use borrow.Author.Rules.{rules}
 use Rattle.writing.proofs.emission.put_gate.Goals as goal
 
 pub bounds-b-0 : goal.bounds-b-0
