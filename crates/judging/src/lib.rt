@@ -106,7 +106,7 @@ fn surveyed(f: Option<usize>, bytes: usize) -> Result<usize, Refusal>
     }
 }
 
-// What the bytes of a tree would be answered, and how many they are where that is Done.
+// What the bytes of a tree would be answered, and how many they are where nothing is refused.
 pub fn survey(t: Tree) -> Result<usize, Refusal>
     ensures { Surveyed t result }
 {

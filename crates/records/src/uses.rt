@@ -1,19 +1,40 @@
 // The search for an item that is an input nowhere: the paper's number 8.
-ghost use Rattle.std.specs.Prelude.{◌≡◌, ◌+◌, ◌≤◌};
-ghost use Rattle.records.specs.Uses.{lowest_unused, unused_of};
+ghost use Rattle.std.specs.Prelude.{◌≡◌, ◌+◌, ◌≤◌, length};
+ghost use Rattle.paper.specs.Lists.{sum};
+ghost use Rattle.records.specs.Uses.{among, lowest_unused, unused_of};
 ghost use Rattle.records.specs.Inner.{Below, Complete, Ready, Seeks};
 
 use paper::{GATES, GATES_FROM, IN_ALL};
 use rules::format::event_length;
 use rules::judge::State;
 
-// The lowest i below count for which from + i is none of the inputs.
-fn missing(inputs: &[u16], from: u16, count: usize) -> Option<usize>
-    requires { from + count ≤ 4096 }
+// Whether the input `wanted` stands in some gate: sought gate by gate, up to the first use.
+fn used(sizes: &[u8], inputs: &[u16], wanted: u16) -> bool
+    requires { sum sizes.now ≡ length inputs.now }
+    ensures { result ≡ among wanted inputs.now }
+{
+    let mut found = false;
+    let mut first = 0;
+    'search: for g in 0..sizes.len() {
+        let end = first + sizes[g] as usize;
+        for i in first..end {
+            if inputs[i] == wanted {
+                found = true;
+                break 'search;
+            }
+        }
+        first = end;
+    }
+    found
+}
+
+// The lowest i below count for which the input from + i stands in no gate.
+fn missing(sizes: &[u8], inputs: &[u16], from: u16, count: usize) -> Option<usize>
+    requires { (sum sizes.now ≡ length inputs.now) × (from + count ≤ 4096) }
     ensures { (result ≡ lowest_unused count 0 from inputs.now) × Below count result }
 {
     for i in 0..count {
-        if !inputs.contains(&(from + (i as u16))) {
+        if !used(sizes, inputs, from + (i as u16)) {
             return Some(i);
         }
     }
@@ -31,10 +52,10 @@ fn unused<'a>(
     requires { Complete events sizes.now places.now inputs.now }
     ensures { result ≡ unused_of sited events sizes.now places.now inputs.now }
 {
-    if let Some(e) = missing(inputs, 0, events) {
+    if let Some(e) = missing(sizes, inputs, 0, events) {
         return Some(event_length(sited) * e);
     }
-    let g = missing(inputs, GATES_FROM, sizes.len() - 1)?;
+    let g = missing(sizes, inputs, GATES_FROM, sizes.len() - 1)?;
     Some(places[g])
 }
 
