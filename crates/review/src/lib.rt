@@ -217,6 +217,31 @@ fn settle(
     climb(nodes, n, count, chances, few, picks, edition, path, set, d)
 }
 
+// The first reportable cut from the spot `p` of a listing's start on.
+pub fn start_from(
+    nodes: &[u32],
+    n: usize,
+    count: usize,
+    chances: &[u32],
+    few: &[u32],
+    picks: &[u32],
+    edition: u32,
+    path: &mut [u32],
+    set: &mut [u64; sets::WORDS],
+    p: walk::Spot,
+) -> Option<walk::Step>
+    requires { Spotted n nodes.now count path.old p.depth p.node (around nodes.now (take p.depth path.old) (sets_of (den nodes.now p.node))) × Carries nodes.now path.old p.depth set.old × Parts n nodes.now (set_of set.old) p.node p.low × Weighed n chances.now nodes.now few.now picks.now count }
+    ensures { MatchOption result (Ended n nodes.now count path.new set.new (keep (worth edition chances.now n) (around nodes.now (take p.depth path.old) (sets_of (den nodes.now p.node))))) (λ m. Landed (worth edition chances.now n) n nodes.now count path.new m.depth (around nodes.now (take p.depth path.old) (sets_of (den nodes.now p.node))) × Carries nodes.now path.new m.depth set.new × Starts n (set_of set.new) m.kept m.low m.high) }
+{
+    let q = settle(nodes, n, count, chances, few, picks, edition, path, set, p)?;
+    let m = descend(nodes, n, count, chances, few, picks, edition, path, set, q);
+    Some(walk::Step {
+        kept: 0,
+        low: 0,
+        ..m
+    })
+}
+
 // The first reportable cut: of all, or of those after the set `s`.
 pub fn start(
     nodes: &[u32],
@@ -236,11 +261,5 @@ pub fn start(
     ensures { MatchOption result (Ended n nodes.now count path.new set.new (keep (worth edition chances.now n) (to_list n (den nodes.now root) begin s.now))) (λ m. Landed (worth edition chances.now n) n nodes.now count path.new m.depth (to_list n (den nodes.now root) begin s.now) × Carries nodes.now path.new m.depth set.new × Starts n (set_of set.new) m.kept m.low m.high) }
 {
     let p = spot(nodes, n, count, root, begin, s, path, set)?;
-    let q = settle(nodes, n, count, chances, few, picks, edition, path, set, p)?;
-    let m = descend(nodes, n, count, chances, few, picks, edition, path, set, q);
-    Some(walk::Step {
-        kept: 0,
-        low: 0,
-        ..m
-    })
+    start_from(nodes, n, count, chances, few, picks, edition, path, set, p)
 }
