@@ -4,10 +4,11 @@ use mathlib.Core.Path.{◌≡◌, refl, sym, ap, ap₂, ◌∙◌}
 use mathlib.Core.Bool.{Bool, true, false, cond}
 use mathlib.Core.List.{List, ◌++◌, append_assoc}
 use Prim.Native.Nat.{ℕ, ◌+◌, ◌-◌, ◌*◌, ◌/◌, ◌%◌, ◌^◌, ◌≤◌, ◌<◌}
+use native.Mathlib.Numerals.{add-one}
 use native.Mathlib.Omega.{arith}
 use lib.Dec.{leb}
 use lib.ListN.{length, get_or, set, take, drop}
-use lib.Seq.{take_at, drop_at, drop-drop, drop-append-add}
+use lib.Seq.{take-suc, take_at, drop_at, drop-drop, drop-append-add, length-take-le}
 use borrow.Author.Tests.{leb-true, leb-false}
 use Rattle.std.proofs.Common.{Some}
 use Rattle.paper.specs.Limits.{wide_from}
@@ -20,8 +21,15 @@ use Rattle.sets.specs.Bytes.{in_word, Told, Spelled, Begun, Laid}
 use Rattle.sets.specs.Beside.{Between, Ahead, Line, Counted, bytes_by}
 use Rattle.sets.proofs.Bit.{from_bit}
 use Rattle.sets.proofs.Count.{keep_agree, two_parts, fewer, members_all, count_le, narrow_bytes, fewer_bytes, wide_members, bytes_most}
-use Rattle.sets.proofs.Bytes.{members_word, members_on, Spelling, spell_start, spell_long, spell_room, spell_more, spell_end, laid_cut, members_fit}
+use Rattle.sets.proofs.Bytes.{members_word, members_on, seam, Spelling, spell_start, spell_long, spell_room, spell_more, spell_end, laid_cut, members_fit}
 use Rattle.sets.proofs.Beside.{low_word, high_word, all_members}
+
+-- ---- copied
+
+pub copy_more : (line r : List ℕ) {R : List ℕ} {k : ℕ} → k < length line → k < length r → R ≡ take k line ++ drop k r → set R k (get_or line k 0) ≡ take (k + 1) line ++ drop (k + 1) r
+copy_more line r {k = k} h l e =
+    ap (λ (x : List ℕ). set x k (get_or line k 0)) e ∙ seam (take k line) r k (get_or line k 0) (length-take-le k line (omega arith)) l
+    ∙ ap (λ (x : List ℕ). x ++ drop (k + 1) r) (sym (ap (λ (n : ℕ). take n line) (add-one k) ∙ take-suc line k 0 h))
 
 -- ---- still right
 

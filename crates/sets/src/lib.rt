@@ -170,12 +170,15 @@ fn write_from(
     end
 }
 
-// The first bytes of the line, `size` of them, at the front of the room that is left.
+// The first bytes of the line, `size` of them, at the front of the room that is left. By hand: `copy_from_slice`, of a length that is not fixed, would need
+// `memmove` of the C library, and the archive for C asks it for no more than `memcpy` and `memset`.
 fn copy(line: &[u8], left: &mut [u8], size: usize)
     requires { (size ≤ length line.now) × (size ≤ length left.old) }
     ensures { left.new ≡ take size line.now ++ drop size left.old }
 {
-    left[..size].copy_from_slice(&line[..size]);
+    for k in 0..size {
+        left[k] = line[k];
+    }
 }
 
 // Writes a cut at the front of the room that is left, if it fits there, and says how many bytes it took. Ones give its size, below
