@@ -85,8 +85,11 @@ pub fn analyse(
 ) -> Result<Tables, Refused>
     ensures { Analysed bytes.now (memory nodes.old cuts.old gates.old added.old memo.old heads.old next.old marks.old own.old) (memory nodes.new cuts.new gates.new added.new memo.new heads.new next.new marks.new own.new) (analysis_of result) }
 {
-    let tree = records::read(bytes)?;
-    analysis::analyse_tree(
-        tree, nodes, cuts, gates, added, memo, heads, next, marks, own,
-    )
+    // A match: `?` would copy the tree once more.
+    match records::read(bytes) {
+        Ok(tree) => analysis::analyse_tree(
+            tree, nodes, cuts, gates, added, memo, heads, next, marks, own,
+        ),
+        Err(why) => Err(Refused::from(why)),
+    }
 }

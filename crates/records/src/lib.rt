@@ -63,16 +63,13 @@ pub fn empty() -> Tree
     }
 }
 
-// Every record is read, and every item is used: the tree with its counts.
-fn done(t: Tree, s: State) -> Tree
-    ensures { result ≡ whole t s }
+// Every record is read, and every item is used: the tree gets its counts, where it stands, since a tree in an answer would be copied.
+fn done(t: &mut Tree, s: State)
+    ensures { t.new ≡ whole t.old s }
 {
-    Tree {
-        event_count: s.events,
-        sited: s.sited,
-        gate_count: s.gates,
-        ..t
-    }
+    t.event_count = s.events;
+    t.sited = s.sited;
+    t.gate_count = s.gates;
 }
 
 // Reads a tree, record by record.
@@ -110,7 +107,10 @@ pub fn read(bytes: &[u8]) -> Result<Tree, Refusal>
             }
             Step::Close => match unused_in(&t.sizes, &places, &t.inputs, s) {
                 Some(place) => return Err(Refusal::Unused(place)),
-                None => return Ok(done(t, s)),
+                None => {
+                    done(&mut t, s);
+                    return Ok(t);
+                }
             },
         }
     }

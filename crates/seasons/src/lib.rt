@@ -55,8 +55,11 @@ pub fn analyse_season(
 ) -> Result<Tables, Refused>
     ensures { AnalysedUnder bytes.now store.now edition (memory nodes.old cuts.old gates.old added.old memo.old heads.old next.old marks.old own.old) (memory nodes.new cuts.new gates.new added.new memo.new heads.new next.new marks.new own.new) (analysis_of result) }
 {
-    let tree = records::read(bytes)?;
-    analyse_read(
-        tree, store, edition, nodes, cuts, gates, added, memo, heads, next, marks, own,
-    )
+    // A match: `?` would copy the tree once more.
+    match records::read(bytes) {
+        Ok(tree) => analyse_read(
+            tree, store, edition, nodes, cuts, gates, added, memo, heads, next, marks, own,
+        ),
+        Err(why) => Err(Refused::from(why)),
+    }
 }

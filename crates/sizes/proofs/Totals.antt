@@ -2,7 +2,7 @@
 -- Assumes nothing.
 use mathlib.Core.Path.{◌≡◌, sym, ap, ◌∙◌, subst}
 use mathlib.Core.Logic.{◌⊎◌, inl, inr}
-use Rattle.std.specs.Prelude.{Some, None}
+use Rattle.std.specs.Prelude.{Option, Some, None}
 use mathlib.Core.List.{List}
 use Prim.Native.Nat.{ℕ, ◌+◌, ◌≤◌, ◌<◌}
 use native.Mathlib.Decide.{ℕ_discrete}
@@ -16,7 +16,7 @@ use Rattle.store.proofs.Denotes.{below_or_not}
 use Rattle.store.proofs.Zeros.{zero_at}
 use Rattle.cuts.specs.Reach.{here}
 use Rattle.sizes.specs.Recursion.{sized, deepest}
-use Rattle.sizes.specs.Passes.{Before, Over, Totals, Whole, Totalled}
+use Rattle.sizes.specs.Passes.{Before, Over, Totals, Whole, Totalled, totals_in}
 use Rattle.sizes.proofs.Counts.{lowered_next, sized_above}
 
 -- before any size: zeros
@@ -70,3 +70,10 @@ totals_end {d} {k} {L} l t = record {
 
 pub totals_over : {d : Diagram} → Over d → Totalled d None
 totals_over b = record { fits = λ M q. cc; long = λ M q. cc; over = λ _. b }
+
+-- whether they fit is what the call answered
+pub totals_fit : {d : Diagram} {r : Option (Unit {0})} {L : List ℕ} {u : Unit {0}} → Totalled d (totals_in r L) → r ≡ Some u → Whole d L × (length L ≡ sizes)
+totals_fit {L = L} w e = let q = ap (λ x. totals_in x L) e in (w.fits L q, w.long L q)
+
+pub totals_lack : {d : Diagram} {r : Option (Unit {0})} (L : List ℕ) → Totalled d (totals_in r L) → r ≡ None → Over d
+totals_lack L w e = w.over (ap (λ x. totals_in x L) e)

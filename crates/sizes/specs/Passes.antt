@@ -58,6 +58,11 @@ pub record Totalled (d : Diagram) (r : Option (List ℕ)) : Type 0 where
   pub long : (L : List ℕ) → r ≡ Some L → length L ≡ sizes
   pub over : r ≡ None → Over d
 
+-- the counts that were written, where they fit
+abbrev pub totals_in : Option (Unit {0}) → List ℕ → Option (List ℕ)
+totals_in (Some _) L = Some L
+totals_in None L = None
+
 -- the first m numbers of L stand in C', what C had stands behind them
 pub record Written (m : ℕ) (C L C' : List ℕ) : Type 0 where
   pub at : (j : ℕ) → j < m → get_or C' j 0 ≡ get_or L j 0

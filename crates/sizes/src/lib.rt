@@ -11,7 +11,7 @@ ghost use Rattle.sizes.specs.Recursion.{deepest};
 ghost use Rattle.without.specs.Reading.{Held};
 ghost use Rattle.cuts.specs.Reach.{Marked, Spread};
 ghost use Rattle.sizes.specs.Reach.{Takes, Collecting, Listed};
-ghost use Rattle.sizes.specs.Passes.{Before, Passed, Adds, Totalled};
+ghost use Rattle.sizes.specs.Passes.{Before, Passed, Adds, Totals, Totalled, totals_in};
 ghost use Rattle.sizes.specs.Counted.{Enough, Counted};
 
 use paper::SIZES;
@@ -138,47 +138,48 @@ fn one_size(
 
 // ---- all sizes
 
-// The counts of the sizes up to the last: the areas change places after each.
+// The counts of the sizes up to the last: the areas change places after each. They are written where they stay: 1,025 numbers in an answer would be copied.
 fn up_to(
     nodes: &[u32],
     root: usize,
     list: &[u64],
     last: usize,
+    totals: &mut [u64; SIZES],
     less: &mut [u64],
     work: &mut [u64],
-) -> Option<[u64; SIZES]>
+) -> Option<()>
     requires held { (Held nodes.now root) × (Listed nodes.now root list.now (length list.now)) × (Before nodes.now root 0 less.old) }
-    requires last_value { (last ≡ deepest (den nodes.now root)) × (last < sizes) }
+    requires last_value { (last ≡ deepest (den nodes.now root)) × (last < sizes) × (Totals (den nodes.now root) 0 totals.old) }
     requires root_in_bounds { (root < length less.old) × (root < length work.old) × (2 ≤ length less.old) × (2 ≤ length work.old) }
-    ensures { Totalled (den nodes.now root) result }
+    ensures { Totalled (den nodes.now root) (totals_in result totals.new) }
 {
-    let mut totals = [0; SIZES];
     let (mut less, mut work) = (less, work);
     for k in 0..last + 1 {
         one_size(nodes, root, list, k, less, work)?;
         totals[k] = work[root];
         (less, work) = (work, less);
     }
-    Some(totals)
+    Some(())
 }
 
 // The counts of all sizes.
 fn all_sizes(
     nodes: &[u32],
     root: usize,
+    totals: &mut [u64; SIZES],
     less: &mut [u64],
     work: &mut [u64],
     reached: &mut [u64],
-) -> Option<[u64; SIZES]>
-    requires held { (Held nodes.now root) × (deepest (den nodes.now root) < sizes) }
+) -> Option<()>
+    requires held { (Held nodes.now root) × (deepest (den nodes.now root) < sizes) × (Totals (den nodes.now root) 0 totals.old) }
     requires root_in_bounds { (root < length less.old) × (root < length work.old) × (root < length reached.old) × (2 ≤ length less.old) × (2 ≤ length work.old) }
-    ensures { Totalled (den nodes.now root) result }
+    ensures { Totalled (den nodes.now root) (totals_in result totals.new) }
 {
     let many = list_reached(nodes, reached, root);
     let list = &reached[..many];
     let last = largest_size(nodes, root, list, work);
     less.fill(0);
-    up_to(nodes, root, list, last, less, work)
+    up_to(nodes, root, list, last, totals, less, work)
 }
 
 // ---- the call
@@ -210,11 +211,12 @@ pub fn sizes(
     if !lengths_ok(cuts, counts, less, work, reached) {
         return Err(Refusal::Length);
     }
-    let totals = all_sizes(cuts, root, less, work, reached);
+    let mut totals = [0; SIZES];
+    let fits = all_sizes(cuts, root, &mut totals, less, work, reached);
     less.fill(0);
     work.fill(0);
     reached.fill(0);
-    let Some(totals) = totals else {
+    let Some(()) = fits else {
         return Err(Refusal::TooMany);
     };
     counts[..SIZES].copy_from_slice(&totals);

@@ -16,6 +16,6 @@ up_to-requires c =
     let root = c.requires.root_in_bounds in
     record {
       held = (c.requires.held.0, listed_alone c.list_reached-many.ensures, before_none _ cleared);
-      last_value = (c.largest_size-last.ensures, omega (arith, c.requires.held.1));
+      last_value = (c.largest_size-last.ensures, omega (arith, c.requires.held.1), c.requires.held.2);
       root_in_bounds = (omega (arith, root.0), omega (arith, root.1), omega (arith, root.3), omega (arith, root.4));
     }

@@ -1,11 +1,11 @@
 -- `sizes::up_to` meets its contract. Assumes nothing.
 use native.Mathlib.Omega.{arith}
 use mathlib.Core.Path.{refl}
-use Rattle.sizes.proofs.Totals.{totals_none, totals_more, totals_end, totals_over}
+use Rattle.sizes.proofs.Totals.{totals_more, totals_end, totals_over}
 use Rattle.sizes.proofs.up_to.Goals as goal
 
 pub loop-k-init : goal.loop-k-init
-loop-k-init c = (c.requires.root_in_bounds.0, c.requires.root_in_bounds.1, c.requires.root_in_bounds.2, c.requires.root_in_bounds.3, totals_none _, c.requires.held.2)
+loop-k-init c = (c.requires.root_in_bounds.0, c.requires.root_in_bounds.1, c.requires.root_in_bounds.2, c.requires.root_in_bounds.3, c.requires.last_value.2, c.requires.held.2)
 
 pub one_size-requires : goal.one_size-requires
 one_size-requires c =
